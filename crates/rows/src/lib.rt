@@ -1,0 +1,31 @@
+//! The words that all crates share: gate kinds, qubits and wires, gate and step rows, refusals, and trading two entries.
+mod kind;
+mod place;
+mod refusal;
+mod row;
+mod table;
+
+pub use kind::Kind;
+pub use kind::KindDebug;
+pub use kind::KindPartialEq;
+pub use place::Logical;
+pub use place::LogicalDebug;
+pub use place::LogicalPartialEq;
+pub use place::Wire;
+pub use place::WireDebug;
+pub use place::WirePartialEq;
+pub use refusal::Fault;
+pub use refusal::FaultDebug;
+pub use refusal::FaultPartialEq;
+pub use refusal::Refusal;
+pub use refusal::RefusalDebug;
+pub use refusal::RefusalPartialEq;
+pub use row::Action;
+pub use row::Gate;
+pub use row::GateDebug;
+pub use row::GatePartialEq;
+pub use row::Operation;
+pub use row::Step;
+pub use row::StepDebug;
+pub use row::StepPartialEq;
+pub use table::trade;
