@@ -1,0 +1,6 @@
+pub mod Peel
+pub mod Runs
+pub mod Decimal
+pub mod Suits
+pub mod OneGate
+pub mod Judging

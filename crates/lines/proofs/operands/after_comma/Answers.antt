@@ -1,0 +1,7 @@
+use borrow.Author.Needs.{needs}
+use lib.Chars.{codes}
+use Rattle.lines.proofs.Peel.{peel, reads-from}
+use Rattle.lines.proofs.operands.after_comma.Needs as need
+
+pub returns-in-44 : need.returns-in-44
+returns-in-44 c = peel (codes ",") _ (reads-from (codes ",") _ (search needs) (search needs))
