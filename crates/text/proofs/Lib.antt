@@ -1,0 +1,6 @@
+pub mod FirstLine
+pub mod Statements
+pub mod Reached
+pub mod Unique
+pub mod Back
+pub mod Whole

@@ -1,0 +1,37 @@
+-- The answer to a whole text from what the parts of the reader find.
+use mathlib.Core.Path.{_≡_, refl, sym, ap, subst, _∙_}
+use mathlib.Core.Logic.{_⊎_, inl, inr}
+use mathlib.Core.List.{List, [], _∷_, _++_, map}
+use Prim.Native.Nat.{ℕ, _+_, _≤_}
+use native.Mathlib.Omega.{arith}
+use lib.ListN.{length, take, drop}
+use Rattle.std.proofs.shelf.Lists.{length-map, take-at}
+use Rattle.rows.specs.declared.refusal.Fault.{Fault}
+use Rattle.rows.specs.declared.row.Gate.{Gate as GateRow}
+use Rattle.rows.specs.Steps.{Gate, row-of-gate}
+use Rattle.text.specs.Reading.{lines, statements, statements-of, Statement, Gates, First-refused, Is-circuit, Is-refused, filled}
+use Rattle.text.specs.Steps.{Headed, Not-headed, Filled}
+
+pub not-headed : (room : ℕ) (ss : List Statement) (f : Fault) → Not-headed ss f → Is-refused room ss f
+not-headed room [] f h = h
+not-headed room (s ∷ ss) f h = inl h
+
+pub refused-later : (room : ℕ) (ss rest : List Statement) (n : ℕ) (f : Fault) → Headed ss n rest → First-refused n room rest f → Is-refused room ss f
+refused-later room [] rest n f h r = absurd h
+refused-later room (s ∷ ss) rest n f h r = inr (n, h .0, subst (λ ss. First-refused n room ss f) (h .1) r)
+
+pub circuit-read : (room : ℕ) (ss rest : List Statement) (n count : ℕ) (blank table : List GateRow) → Headed ss n rest → (r : Filled n room rest count blank table) → Is-circuit room ss n (r .gs)
+circuit-read room [] rest n count blank table h r = absurd h
+circuit-read room (s ∷ ss) rest n count blank table h r = (h .0, subst (λ ss. Gates n room ss (r .gs)) (h .1) (r .gates))
+
+-- the rows copied from the front of the table
+pub rows-copied : (n room count : ℕ) (rest : List Statement) (blank table old new : List GateRow) → (r : Filled n room rest count blank table) →
+    new ≡ take count table ++ drop count old → new ≡ filled (map row-of-gate (r .gs)) old
+rows-copied n room count rest blank table old new r e =
+    let long : length (map row-of-gate (r .gs)) ≡ count = length-map (r .gs) row-of-gate ∙ sym (r .counted) in
+    e ∙ ap (λ l. l ++ drop count old) (ap (take count) (r .rows) ∙ take-at (map row-of-gate (r .gs)) (drop (length (map row-of-gate (r .gs))) blank) count long)
+    ∙ ap (λ k. map row-of-gate (r .gs) ++ drop k old) (sym long)
+
+-- a lexer over all of a text has its statements before it
+pub from-start : (text rest : List ℕ) (passed : ℕ) → rest ≡ text → passed ≡ 0 → statements (passed + 1) (lines rest) ≡ statements-of text
+from-start text rest passed e z = λ i. statements (z i + 1) (lines (e i))
