@@ -1,6 +1,7 @@
 -- Gates and steps, and the rows that write them. A gate stands at qubits in a circuit, and at wires in a step.
 use mathlib.Core.Bool.{Bool, true, false, cond, _&&_, _||_, not}
 use mathlib.Core.List.{List, [], _∷_}
+use mathlib.Core.Path.{_≡_}
 use Prim.Native.Nat.{ℕ}
 use lib.Dec.{eqb, ltb}
 use Rattle.std.specs.declared.option.Option.{Option}
@@ -145,3 +146,13 @@ abbrev pub step-at : Action → Step
 step-at (Action.One κ k a) = gate (one κ k (a .0))
 step-at (Action.Two κ k a b) = gate (two κ k (a .0) (b .0))
 step-at (Action.Exchange a b) = swap (a .0) (b .0)
+
+-- a gate of a circuit of n qubits, or on a chip of n wires: its places and its k are as they should be
+pub record Good-gate (n : ℕ) (g : Gate) : Type 0 where
+  pub fitting : fits n g ≡ true
+  pub k : k-suits (kind-of g) (k-of g) ≡ true
+
+-- the same of a step
+abbrev pub Good-step : ℕ → Step → Type 0
+Good-step n (gate g) = Good-gate n g
+Good-step n (swap a b) = pair-below n a b ≡ true

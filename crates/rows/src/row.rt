@@ -1,8 +1,10 @@
 // Rows of gates and steps, and what they decode to.
 ghost use mathlib.Core.Path.{_≡_};
+ghost use Prim.Native.Nat.{ℕ};
+ghost use Rattle.std.specs.declared.option.Option.the-variants.{Some};
 ghost use Rattle.std.specs.Options.{mapped};
 ghost use Rattle.rows.specs.Kinds.{k-suits};
-ghost use Rattle.rows.specs.Steps.{well-formed, pair-below, gate-of, gate-at, row-of-gate, step-of, step-at, written};
+ghost use Rattle.rows.specs.Steps.{well-formed, pair-below, gate-of, gate-at, row-of-gate, step-of, step-at, written, Good-gate, Good-step};
 use crate::kind::Kind;
 use crate::place::Logical;
 use crate::place::LogicalDebug;
@@ -95,9 +97,10 @@ impl Gate {
 }
 
 impl Operation {
-    /// The row that writes it.
+    /// The row that writes it; where it is a gate of a circuit of n qubits, the row decodes to it again.
     pub fn row(self) -> Gate
-        ensures { λ r. ⌜ r ≡ row-of-gate (gate-at self) ⌝ }
+        ensures value { λ r. ⌜ r ≡ row-of-gate (gate-at self) ⌝ }
+        ensures decodes { λ r. ⌜ ((n : ℕ) → Good-gate n (gate-at self) → gate-of n r ≡ Some (gate-at self)) ⌝ }
     {
         match self {
             Operation::One(kind, k, first) => Gate {
@@ -140,9 +143,10 @@ impl Step {
 }
 
 impl Action {
-    /// The row that writes it, with its start cycle.
+    /// The row that writes it, with its start cycle; where it is a step on a chip of n wires, the row decodes to it again.
     pub fn row(self, start: u32) -> Step
-        ensures { λ r. ⌜ r ≡ written (step-at self) start ⌝ }
+        ensures value { λ r. ⌜ r ≡ written (step-at self) start ⌝ }
+        ensures decodes { λ r. ⌜ ((n : ℕ) → Good-step n (step-at self) → step-of n r ≡ Some (step-at self)) ⌝ }
     {
         match self {
             Action::One(kind, k, first) => Step {

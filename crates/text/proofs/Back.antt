@@ -17,12 +17,12 @@ use Rattle.rows.specs.declared.refusal.Fault.{Fault}
 use Rattle.rows.specs.declared.row.Gate.{Gate as GateRow}
 use Rattle.rows.specs.declared.kind.Kind.{Kind}
 use Rattle.rows.specs.Kinds.{double, name}
-use Rattle.rows.specs.Steps.{Gate, one, two, kind-of, first-of, second-of, pair-below, fits, row-of-gate}
+use Rattle.rows.specs.Steps.{Gate, one, two, kind-of, first-of, second-of, pair-below, fits, row-of-gate, Good-gate}
 use Rattle.lines.specs.Grammar.{heading, line-of, paired, Writes, Within, Doubled}
 use Rattle.lines.proofs.Judging.{is-accepted}
 use Rattle.text.specs.declared.circuit.Circuit.{Circuit}
 use Rattle.text.specs.Reading.{onto, lines, skipped, Statement, statements, statements-of, Gates, Is-circuit, room, filled, Reading, Only-reading}
-use Rattle.text.specs.Writing.{Spaced, Unbroken, ended, Made-of, Gate-of, Small-circuit, Reads-back}
+use Rattle.text.specs.Writing.{Spaced, Unbroken, ended, Made-of, Small-circuit, Reads-back}
 use Rattle.text.proofs.FirstLine.{line-then}
 use Rattle.text.proofs.Unique.{reading-same}
 
@@ -137,7 +137,7 @@ record Good (n : ℕ) (g : Gate) : Type 0 where
   within : Within n g
   apart : ¬ Doubled g
 
-good : (n : ℕ) (g : Gate) → n ≤ 64 → Gate-of n g → Good n g
+good : (n : ℕ) (g : Gate) → n ≤ 64 → Good-gate n g → Good n g
 good n (one κ k a) few h =
     let p = single-parts n a (double κ) (h .fitting) in
     record {
@@ -154,7 +154,7 @@ good n (two κ k a b) few h =
       apart = p .2;
     }
 
-gates-written : (n left : ℕ) (ss : List Statement) (gs : List Gate) → n ≤ 64 → All (Gate-of n) gs → length gs ≤ left →
+gates-written : (n left : ℕ) (ss : List Statement) (gs : List Gate) → n ≤ 64 → All (Good-gate n) gs → length gs ≤ left →
     map (λ s. s .bytes) ss ≡ map line-of gs → Gates n left ss gs
 gates-written n left [] [] few h fit e = refl
 gates-written n left [] (g ∷ gs) few h fit e = absurd (omega (arith, ap length e))

@@ -4,3 +4,4 @@ pub mod Reached
 pub mod Unique
 pub mod Back
 pub mod Whole
+pub mod Decoding

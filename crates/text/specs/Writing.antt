@@ -10,8 +10,7 @@ use Rattle.std.specs.declared.result.Result.{Result}
 use Rattle.std.specs.declared.result.Result.the-variants.{Ok}
 use Rattle.rows.specs.declared.refusal.Fault.{Fault}
 use Rattle.rows.specs.declared.row.Gate.{Gate as GateRow}
-use Rattle.rows.specs.Kinds.{k-suits}
-use Rattle.rows.specs.Steps.{Gate, kind-of, k-of, fits, row-of-gate}
+use Rattle.rows.specs.Steps.{Gate, row-of-gate, Good-gate}
 use Rattle.lines.specs.Grammar.{heading, line-of}
 use Rattle.text.specs.declared.circuit.Circuit.{Circuit}
 use Rattle.text.specs.Reading.{skipped, room, filled}
@@ -35,16 +34,11 @@ pub record Made-of (text : List ℕ) (ls : List (List ℕ)) : Type 0 where
   pub unbroken : All Unbroken ls
   pub is : (text ≡ ended ls) ⊎ (text ++ 10 ∷ [] ≡ ended ls)
 
--- a gate of a circuit of n qubits
-pub record Gate-of (n : ℕ) (g : Gate) : Type 0 where
-  pub fitting : fits n g ≡ true
-  pub k : k-suits (kind-of g) (k-of g) ≡ true
-
 -- a circuit that fits so many rows
 pub record Small-circuit (rows n : ℕ) (gs : List Gate) : Type 0 where
   pub some : 1 ≤ n
   pub few : n ≤ 64
-  pub gates : All (Gate-of n) gs
+  pub gates : All (Good-gate n) gs
   pub fit : length gs ≤ rows
 
 -- whenever the text is a circuit written out, with comments and empty lines between, the answer is that circuit, and its rows stand first

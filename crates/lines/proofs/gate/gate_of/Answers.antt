@@ -22,5 +22,5 @@ returns-then-left-eq0 c =
 pub returns : need.returns
 returns c = (
   is-accepted _ _ _ _ (gate-in (c .in-Some .gate)) (c .in-Some .ensures tt) (c .if-not-is-within .ensures tt) (c .if-is-doubled .ensures tt) (c .if-left-eq0 .left),
-  (gate-in (c .in-Some .gate), c .in-Some .ensures tt, c .row .ensures ∙ ap row-of-gate (c .on-qubits .ensures)),
+  (gate-in (c .in-Some .gate), c .in-Some .ensures tt, c .row .ensures .value ∙ ap row-of-gate (c .on-qubits .ensures)),
 )
