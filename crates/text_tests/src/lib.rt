@@ -1,0 +1,9 @@
+//! Tests of the reading of circuit texts, worked from the rules of the format.
+#[cfg(test)]
+mod accepted;
+#[cfg(test)]
+mod refused;
+#[cfg(test)]
+mod room;
+#[cfg(test)]
+mod tools;
