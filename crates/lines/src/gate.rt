@@ -46,6 +46,64 @@ fn on_qubits(gate: Written, n: u8) -> Operation
     }
 }
 
+// Refuses a gate whose qubits are not all qubits of the circuit.
+fn within(line: &[u8], at: usize, qubits: u8, left: usize, gate: Written) -> Result<(), Fault>
+    requires { ⌜ Writes (now line) (gate-in gate) ⌝ }
+    ensures { λ r. ⌜ ByOk r (λ _. Within qubits (gate-in gate)) (λ f. Turned (Line-fits qubits left (now (line .entry)) at) f) ⌝ }
+{
+    if is_within(gate, qubits) {
+        return Ok(());
+    }
+    Err(Fault {
+        refusal: Refusal::OffCircuit,
+        place: at,
+    })
+}
+
+// Refuses a gate that names one qubit twice.
+fn apart(line: &[u8], at: usize, qubits: u8, left: usize, gate: Written) -> Result<(), Fault>
+    requires writes { ⌜ Writes (now line) (gate-in gate) ⌝ }
+    requires within { ⌜ Within qubits (gate-in gate) ⌝ }
+    ensures { λ r. ⌜ ByOk r (λ _. ¬ Doubled (gate-in gate)) (λ f. Turned (Line-fits qubits left (now (line .entry)) at) f) ⌝ }
+{
+    if is_doubled(gate) {
+        return Err(Fault {
+            refusal: Refusal::Twice,
+            place: at,
+        });
+    }
+    Ok(())
+}
+
+// Refuses a gate for which no row is left.
+fn row_left(line: &[u8], at: usize, qubits: u8, left: usize, gate: Written) -> Result<(), Fault>
+    requires writes { ⌜ Writes (now line) (gate-in gate) ⌝ }
+    requires within { ⌜ Within qubits (gate-in gate) ⌝ }
+    requires apart { ⌜ ¬ Doubled (gate-in gate) ⌝ }
+    ensures { λ r. ⌜ ByOk r (λ _. Accepted (Line-fits qubits left (now (line .entry)) at)) (λ f. Turned (Line-fits qubits left (now (line .entry)) at) f) ⌝ }
+{
+    if left == 0 {
+        return Err(Fault {
+            refusal: Refusal::NoRow,
+            place: at,
+        });
+    }
+    Ok(())
+}
+
+// The gate that a line writes, or that it is unreadable.
+fn readable(line: &[u8], at: usize, qubits: u8, left: usize) -> Result<Written, Fault>
+    ensures { λ r. ⌜ ByOk r (λ w. Writes (now (line .entry)) (gate-in w)) (λ f. Turned (Line-fits qubits left (now (line .entry)) at) f) ⌝ }
+{
+    match parse_gate(line) {
+        Some(gate) => Ok(gate),
+        None => Err(Fault {
+            refusal: Refusal::Unreadable,
+            place: at,
+        }),
+    }
+}
+
 /// The row of the gate that `line` writes, the line `at` of its text, in a circuit of so many qubits
 /// where rows are left for so many more gates.
 pub fn gate_of(line: &[u8], at: usize, qubits: u8, left: usize) -> Result<GateRow, Fault>
@@ -53,29 +111,9 @@ pub fn gate_of(line: &[u8], at: usize, qubits: u8, left: usize) -> Result<GateRo
         (λ row. Accepted (Line-fits qubits left (now (line .entry)) at) × ((g : Gate) × Writes (now (line .entry)) g × (row ≡ row-of-gate g)))
         (λ f. Turned (Line-fits qubits left (now (line .entry)) at) f) ⌝ }
 {
-    let Some(gate) = parse_gate(line) else {
-        return Err(Fault {
-            refusal: Refusal::Unreadable,
-            place: at,
-        });
-    };
-    if !is_within(gate, qubits) {
-        return Err(Fault {
-            refusal: Refusal::OffCircuit,
-            place: at,
-        });
-    }
-    if is_doubled(gate) {
-        return Err(Fault {
-            refusal: Refusal::Twice,
-            place: at,
-        });
-    }
-    if left == 0 {
-        return Err(Fault {
-            refusal: Refusal::NoRow,
-            place: at,
-        });
-    }
+    let gate = readable(line, at, qubits, left)?;
+    within(line, at, qubits, left, gate)?;
+    apart(line, at, qubits, left, gate)?;
+    row_left(line, at, qubits, left, gate)?;
     Ok(on_qubits(gate, qubits).row())
 }

@@ -2,7 +2,8 @@
 ghost use mathlib.Core.Path.{_≡_};
 ghost use mathlib.Core.List.{List};
 ghost use Prim.Native.Nat.{ℕ, _≤_, _<_};
-ghost use lib.ListN.{length};
+ghost use lib.ListN.{length, getD};
+ghost use Rattle.std.specs.Orderings.{When};
 ghost use Rattle.std.specs.shelf.Lists.{All};
 ghost use Rattle.std.specs.Reads.{value};
 ghost use Rattle.std.specs.Options.{Cases as BySome};
@@ -23,6 +24,16 @@ fn digits_value(digits: &[u8]) -> u16
     v
 }
 
+// Whether there are two digits or more, and the first is 0.
+fn has_leading_zero(digits: &[u8]) -> bool
+    ensures { λ r. ⌜ When r ((1 < length (now (digits .entry))) × (getD (now (digits .entry)) 0 0 ≡ 48)) (getD (now (digits .entry)) 0 0 ≡ 48 → length (now (digits .entry)) ≤ 1) ⌝ }
+{
+    match digits {
+        [b'0', _, ..] => true,
+        _ => false,
+    }
+}
+
 // The number at the front of `s`, and what comes after it.
 pub(crate) fn number(s: &[u8]) -> Option<(u16, &[u8])>
     ensures { λ r. ⌜ BySome r ((v : ℕ) (rest : List ℕ) → ¬ Begins (now (s .entry)) v rest) (λ x. Begins (now (s .entry)) (x .0) (now (x .1))) ⌝ }
@@ -34,7 +45,7 @@ pub(crate) fn number(s: &[u8]) -> Option<(u16, &[u8])>
     if digits.len() > 4 {
         return None;
     }
-    if digits.len() > 1 && digits[0] == b'0' {
+    if has_leading_zero(digits) {
         return None;
     }
     Some((digits_value(digits), rest))

@@ -99,10 +99,8 @@ impl Refusal {
 
 impl Refusal {
     /// The place of the refusal in the order of judgement: of all conditions that hold, the lowest rank is answered.
-    /// No two refusals have one rank.
     pub fn rank(self) -> u8
-        ensures value { λ r. ⌜ r ≡ rank self ⌝ }
-        ensures own { λ r. ⌜ ((other : Refusal) → rank other ≡ r → other ≡ self) ⌝ }
+        ensures { λ r. ⌜ r ≡ rank self ⌝ }
     {
         self.number()
     }

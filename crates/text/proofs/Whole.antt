@@ -5,12 +5,14 @@ use mathlib.Core.List.{List, [], _∷_, _++_, map}
 use Prim.Native.Nat.{ℕ, _+_, _≤_}
 use native.Mathlib.Omega.{arith}
 use lib.ListN.{length, take, drop}
+use Rattle.std.specs.declared.result.Result.the-variants.{Ok}
 use Rattle.std.proofs.shelf.Lists.{length-map, take-at}
 use Rattle.rows.specs.declared.refusal.Fault.{Fault}
 use Rattle.rows.specs.declared.row.Gate.{Gate as GateRow}
 use Rattle.rows.specs.Steps.{Gate, row-of-gate}
-use Rattle.text.specs.Reading.{lines, statements, statements-of, Statement, Gates, First-refused, Is-circuit, Is-refused, filled}
-use Rattle.text.specs.Steps.{Headed, Not-headed, Filled}
+use Rattle.text.specs.Reading.{lines, statements, statements-of, Statement, Gates, First-refused, Is-circuit, Is-refused, room, filled, Reading}
+use Rattle.text.specs.declared.circuit.Circuit.{Circuit}
+use Rattle.text.specs.Steps.{Headed, Not-headed, Filled, Found}
 
 pub not-headed : (room : ℕ) (ss : List Statement) (f : Fault) → Not-headed ss f → Is-refused room ss f
 not-headed room [] f h = h
@@ -24,13 +26,23 @@ pub circuit-read : (room : ℕ) (ss rest : List Statement) (n count : ℕ) (blan
 circuit-read room [] rest n count blank table h r = absurd h
 circuit-read room (s ∷ ss) rest n count blank table h r = (h .0, subst (λ ss. Gates n room ss (r .gs)) (h .1) (r .gates))
 
--- the rows copied from the front of the table
-pub rows-copied : (n room count : ℕ) (rest : List Statement) (blank table old new : List GateRow) → (r : Filled n room rest count blank table) →
-    new ≡ take count table ++ drop count old → new ≡ filled (map row-of-gate (r .gs)) old
-rows-copied n room count rest blank table old new r e =
+-- the parts of a text together
+pub found : (room : ℕ) (ss rest : List Statement) (n count : ℕ) (blank table : List GateRow) → Headed ss n rest → Filled n room rest count blank table → Found room ss (record { qubits = n; gates = count }) table
+found room ss rest n count blank table h r =
     let long : length (map row-of-gate (r .gs)) ≡ count = length-map (r .gs) row-of-gate ∙ sym (r .counted) in
-    e ∙ ap (λ l. l ++ drop count old) (ap (take count) (r .rows) ∙ take-at (map row-of-gate (r .gs)) (drop (length (map row-of-gate (r .gs))) blank) count long)
-    ∙ ap (λ k. map row-of-gate (r .gs) ++ drop k old) (sym long)
+    record {
+      gs = r .gs;
+      circuit = circuit-read room ss rest n count blank table h r;
+      counted = r .counted;
+      fit = r .fit;
+      rows = ap (take count) (r .rows) ∙ take-at (map row-of-gate (r .gs)) (drop (length (map row-of-gate (r .gs))) blank) count long;
+    }
+
+-- the rows copied from the front of the table
+pub copied : (text : List ℕ) (c : Circuit) (table old new : List GateRow) → Found (room old) (statements-of text) c table → new ≡ take (c .gates) table ++ drop (c .gates) old → Reading text old new (Ok c)
+copied text c table old new f e =
+    let long : c .gates ≡ length (map row-of-gate (f .gs)) = f .counted ∙ sym (length-map (f .gs) row-of-gate) in
+    (f .gs, f .circuit, f .counted, e ∙ (λ i. f .rows i ++ drop (long i) old))
 
 -- a lexer over all of a text has its statements before it
 pub from-start : (text rest : List ℕ) (passed : ℕ) → rest ≡ text → passed ≡ 0 → statements (passed + 1) (lines rest) ≡ statements-of text

@@ -2,13 +2,14 @@
 use mathlib.Core.Path.{_≡_}
 use mathlib.Core.List.{List, [], _∷_, map}
 use Prim.Native.Nat.{ℕ, _≤_}
-use lib.ListN.{length}
+use lib.ListN.{length, take}
 use Rattle.rows.specs.declared.refusal.Refusal.{Refusal}
 use Rattle.rows.specs.declared.refusal.Fault.{Fault}
 use Rattle.rows.specs.declared.row.Gate.{Gate as GateRow}
 use Rattle.rows.specs.Steps.{Gate, row-of-gate}
 use Rattle.lines.specs.Grammar.{Heads}
-use Rattle.text.specs.Reading.{Statement, Gates, filled}
+use Rattle.text.specs.declared.circuit.Circuit.{Circuit}
+use Rattle.text.specs.Reading.{Statement, Gates, Is-circuit, filled}
 
 -- the first of the statements gives n qubits, and rest comes after it
 abbrev pub Headed : List Statement → ℕ → List Statement → Type 0
@@ -27,3 +28,11 @@ pub record Filled (n room : ℕ) (ss : List Statement) (count : ℕ) (old new : 
   pub counted : count ≡ length gs
   pub fit : count ≤ room
   pub rows : new ≡ filled (map row-of-gate gs) old
+
+-- the statements are a circuit, whose rows stand first in the table
+pub record Found (room : ℕ) (ss : List Statement) (c : Circuit) (table : List GateRow) : Type 0 where
+  pub gs : List Gate
+  pub circuit : Is-circuit room ss (c .qubits) gs
+  pub counted : c .gates ≡ length gs
+  pub fit : c .gates ≤ room
+  pub rows : take (c .gates) table ≡ map row-of-gate gs

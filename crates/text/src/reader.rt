@@ -1,12 +1,12 @@
 // The reading of a whole text.
 ghost use mathlib.Core.Path.{_≡_};
 ghost use mathlib.Core.List.{List, [], _∷_, _++_, map};
-ghost use Prim.Native.Nat.{ℕ, _+_, _≤_, _<_};
+ghost use Prim.Native.Nat.{ℕ, _+_, _≤_, _<_, min};
 ghost use lib.ListN.{length, take, drop};
 ghost use Rattle.std.specs.Results.{Cases as ByOk};
-ghost use Rattle.text.specs.Reading.{lines, statements, First-refused, Reading, Only-reading};
+ghost use Rattle.text.specs.Reading.{lines, statements, statements-of, First-refused, Is-refused, Reading, Only-reading};
 ghost use Rattle.text.specs.Writing.{Reads-back};
-ghost use Rattle.text.specs.Steps.{Headed, Not-headed, Filled};
+ghost use Rattle.text.specs.Steps.{Headed, Not-headed, Filled, Found};
 use crate::circuit::Circuit;
 use crate::lexer::Lexer;
 use lines::gate_of;
@@ -18,6 +18,13 @@ use rows::Refusal;
 
 // A circuit holds at most so many gates.
 const MOST: usize = 1024;
+
+// How many gates are taken where so many rows are lent.
+fn room_for(lent: usize) -> usize
+    ensures { λ r. ⌜ r ≡ min 1024 lent ⌝ }
+{
+    lent.min(MOST)
+}
 
 // The number of qubits, by the first statement.
 fn read_heading(lexer: &mut Lexer) -> Result<u8, Fault>
@@ -64,6 +71,34 @@ fn copy_front(rows: &mut [Gate], table: &[Gate], count: usize)
     rows[0..count].copy_from_slice(&table[0..count]);
 }
 
+// Reads a circuit's text into the front of a table, for rows of which so many are lent.
+fn read_circuit(text: &[u8], lent: usize, table: &mut [Gate]) -> Result<Circuit, Fault>
+    requires { ⌜ 1024 ≤ length (now table) ⌝ }
+    ensures { λ r. ⌜ ByOk r
+        (λ c. Found (min 1024 lent) (statements-of (now (text .entry))) c (now (table .exit)))
+        (λ f. Is-refused (min 1024 lent) (statements-of (now (text .entry))) f) ⌝ }
+{
+    let mut lexer = Lexer::new(text);
+    let qubits = read_heading(&mut lexer)?;
+    let gates = read_gates(lexer, qubits, room_for(lent), table)?;
+    Ok(Circuit { qubits, gates })
+}
+
+// Reads a circuit's text: all of it into a table first, and then the table into the rows.
+fn read_rows(text: &[u8], rows: &mut [Gate]) -> Result<Circuit, Fault>
+    ensures { λ r. ⌜ Reading (now (text .entry)) (now (rows .entry)) (now (rows .exit)) r ⌝ }
+{
+    let mut table = [Gate {
+        kind: 0,
+        first: Logical(0),
+        second: Logical(0),
+        k: 0,
+    }; MOST];
+    let circuit = read_circuit(text, rows.len(), &mut table)?;
+    copy_front(rows, &table, circuit.gates);
+    Ok(circuit)
+}
+
 /// Reads a circuit's text: writes the row of each gate, from the front of `rows`, and answers the number of qubits and of gates.
 /// A text that is refused leaves all rows as they were.
 pub fn read(text: &[u8], rows: &mut [Gate]) -> Result<Circuit, Fault>
@@ -71,15 +106,5 @@ pub fn read(text: &[u8], rows: &mut [Gate]) -> Result<Circuit, Fault>
     ensures only { λ r. ⌜ Only-reading (now (text .entry)) (now (rows .entry)) (now (rows .exit)) r ⌝ }
     ensures back { λ r. ⌜ Reads-back (now (text .entry)) (now (rows .entry)) (now (rows .exit)) r ⌝ }
 {
-    let mut lexer = Lexer::new(text);
-    let qubits = read_heading(&mut lexer)?;
-    let mut table = [Gate {
-        kind: 0,
-        first: Logical(0),
-        second: Logical(0),
-        k: 0,
-    }; MOST];
-    let gates = read_gates(lexer, qubits, rows.len().min(MOST), &mut table)?;
-    copy_front(rows, &table, gates);
-    Ok(Circuit { qubits, gates })
+    read_rows(text, rows)
 }

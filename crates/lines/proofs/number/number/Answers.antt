@@ -6,7 +6,7 @@ use Rattle.lines.specs.Tokens.{Fronts, Longest}
 use Rattle.lines.proofs.Runs.{longest-same, longest-some}
 use Rattle.lines.proofs.Decimal.{begins, begins-run, number-long, number-lead, number-token}
 use Rattle.lines.proofs.number.number.Needs as need
-use Rattle.lines.proofs.number.number.Needs.{In-Number, else-digits-gt1·by·then-digits-gt1·else-digits-eq48, else-digits-gt1·by·else-digits-gt1}
+use Rattle.lines.proofs.number.number.Needs.{In-Number}
 
 -- the token is the longest run of digits
 run : (c : In-Number) → Longest Digit (c .args .s .now) (c .in-Number .digits .now) (c .in-Continue-token .rest .now)
@@ -24,14 +24,15 @@ returns-then-digits-gt4 c v rest b =
     let is = longest-same Digit _ _ _ _ _ (run (need.at·returns-then-digits-gt4 c .In-Number)) (begins-run _ v rest b) .0 in
     omega (arith, ap length is, number-long v (b .small))
 
-pub returns-then-digits-eq48 : need.returns-then-digits-eq48
-returns-then-digits-eq48 c v rest b =
-    let is = longest-same Digit _ _ _ _ _ (run (need.at·returns-then-digits-eq48 c .In-Number)) (begins-run _ v rest b) .0 in
-    omega (arith, ap length is, number-lead v (b .small) (sym (ap (λ l. getD l 0 0) is) ∙ c .if-digits-eq48 .taken))
+pub returns-then-has-leading-zero : need.returns-then-has-leading-zero
+returns-then-has-leading-zero c v rest b =
+    let zero-first = c .if-has-leading-zero .ensures tt in
+    let is = longest-same Digit _ _ _ _ _ (run (need.at·returns-then-has-leading-zero c .In-Number)) (begins-run _ v rest b) .0 in
+    omega (arith, ap length is, zero-first .0, number-lead v (b .small) (sym (ap (λ l. getD l 0 0) is) ∙ zero-first .1))
 
 pub returns : need.returns
 returns c =
     let l = run (need.at·returns c .In-Number) in
-    let lead : getD (c .in-Number .digits .now) 0 0 ≡ 48 → length (c .in-Number .digits .now) ≡ 1 = λ e. elim (c .else-digits-gt1 .came) [ else-digits-gt1·by·then-digits-gt1·else-digits-eq48 w ↦ absurd (w .if-digits-eq48 .left e) | else-digits-gt1·by·else-digits-gt1 w ↦ omega (arith, w .if-digits-gt1 .left, l .some) ] in
+    let lead : getD (c .in-Number .digits .now) 0 0 ≡ 48 → length (c .in-Number .digits .now) ≡ 1 = λ e. omega (arith, c .if-has-leading-zero .ensures tt e, l .some) in
     subst (λ v. Begins (c .args .s .now) v (c .in-Continue-token .rest .now)) (sym (c .digits-value .ensures))
     (begins _ _ _ l (c .if-digits-gt4 .left) lead)
