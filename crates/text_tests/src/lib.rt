@@ -4,6 +4,8 @@ mod accepted;
 #[cfg(test)]
 mod refused;
 #[cfg(test)]
+mod reports;
+#[cfg(test)]
 mod room;
 #[cfg(test)]
 mod tools;

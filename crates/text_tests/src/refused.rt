@@ -1,18 +1,18 @@
 // Texts that are refused.
-use crate::tools::refused;
+use crate::tools::check_refused;
 use std::test::*;
 
 // Each text with the number and the place of its refusal.
-fn all_refused(table: &[(&[u8], u8, usize)]) -> Result<(), Fail> {
+fn check_refusals(table: &[(&[u8], u8, usize)]) -> Result<(), Fail> {
     for (text, number, place) in table {
-        refused(text, *number, *place)?;
+        check_refused(text, *number, *place)?;
     }
     Ok(())
 }
 
 #[test]
 fn without_a_number_of_qubits() -> Result<(), Fail> {
-    all_refused(
+    check_refusals(
         &[
             (b"", 1, 0),
             (b"\n\n\n", 1, 0),
@@ -38,7 +38,7 @@ fn without_a_number_of_qubits() -> Result<(), Fail> {
 
 #[test]
 fn unreadable_names_and_forms() -> Result<(), Fail> {
-    all_refused(
+    check_refusals(
         &[
             (b"qubits 4\nqubits 4\n", 2, 2),
             (b"qubits 4\nswap q0,q1\n", 2, 2),
@@ -66,7 +66,7 @@ fn unreadable_names_and_forms() -> Result<(), Fail> {
 
 #[test]
 fn unreadable_bytes_and_numbers() -> Result<(), Fail> {
-    all_refused(
+    check_refusals(
         &[
             (b"qubits 4\n\x00\n", 2, 2),
             (b"qubits 4\nx q0\x00\n", 2, 2),
@@ -89,7 +89,7 @@ fn unreadable_bytes_and_numbers() -> Result<(), Fail> {
 
 #[test]
 fn off_the_circuit_or_twice() -> Result<(), Fail> {
-    all_refused(
+    check_refusals(
         &[
             (b"qubits 2\nh q2\n", 3, 2),
             (b"qubits 64\nh q64\n", 3, 2),

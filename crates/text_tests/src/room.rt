@@ -1,7 +1,7 @@
 // How many gates a circuit may have.
 use crate::tools::MARK;
 use crate::tools::gate;
-use crate::tools::marked;
+use crate::tools::check_marked;
 use rows::FaultDebug;
 use rows::FaultPartialEq;
 use rows::Gate;
@@ -32,7 +32,7 @@ fn the_last_gate_that_fits(rt: LibcRuntime) -> Result<(), Fail> {
             for row in rows.iter().take(1024) {
                 check_eq(*row, gate(1, 0, 0, 0))?;
             }
-            marked(&rows, 1024)
+            check_marked(&rows, 1024)
         }
     }
 }
@@ -46,7 +46,7 @@ fn one_gate_too_many(rt: LibcRuntime) -> Result<(), Fail> {
         Err(fault) => {
             check_eq(fault.number(), 5)?;
             check_eq(fault.place, 1026)?;
-            marked(&rows, 0)
+            check_marked(&rows, 0)
         }
     }
 }
@@ -59,7 +59,7 @@ fn rows_used_up() -> Result<(), Fail> {
         Err(fault) => {
             check_eq(fault.number(), 5)?;
             check_eq(fault.place, 5)?;
-            marked(&rows, 0)
+            check_marked(&rows, 0)
         }
     }
 }

@@ -10,7 +10,7 @@ use text::Circuit;
 use text::read;
 
 // A row that no circuit has, to see that rows are left as they were.
-pub const MARK: Gate = Gate {
+pub(crate) const MARK: Gate = Gate {
     kind: 77,
     first: Logical(201),
     second: Logical(202),
@@ -18,7 +18,7 @@ pub const MARK: Gate = Gate {
 };
 
 // The row of a gate.
-pub fn gate(kind: u8, first: u8, second: u8, k: u8) -> Gate {
+pub(crate) fn gate(kind: u8, first: u8, second: u8, k: u8) -> Gate {
     Gate {
         kind,
         first: Logical(first),
@@ -28,7 +28,7 @@ pub fn gate(kind: u8, first: u8, second: u8, k: u8) -> Gate {
 }
 
 // All rows from `from` on are marked.
-pub fn marked(rows: &[Gate], from: usize) -> Result<(), Fail> {
+pub(crate) fn check_marked(rows: &[Gate], from: usize) -> Result<(), Fail> {
     for row in rows.iter().skip(from) {
         check_eq(*row, MARK)?;
     }
@@ -36,7 +36,7 @@ pub fn marked(rows: &[Gate], from: usize) -> Result<(), Fail> {
 }
 
 // The text is refused by this number at this place, and all rows stay as they were.
-pub fn refused(text: &[u8], number: u8, place: usize) -> Result<(), Fail> {
+pub(crate) fn check_refused(text: &[u8], number: u8, place: usize) -> Result<(), Fail> {
     let mut rows = [MARK; 8];
     match read(text, &mut rows) {
         Ok(_) => Err(Fail::new("the text is read")),
@@ -44,13 +44,13 @@ pub fn refused(text: &[u8], number: u8, place: usize) -> Result<(), Fail> {
             check_eq(fault.number(), number)?;
             check_eq(fault.place, place)?;
             check_eq(fault.layer(), 1)?;
-            marked(&rows, 0)
+            check_marked(&rows, 0)
         }
     }
 }
 
 // The text is a circuit of so many qubits, with these rows, and all further rows stay as they were.
-pub fn accepted(text: &[u8], qubits: u8, gates: &[Gate]) -> Result<(), Fail> {
+pub(crate) fn check_read(text: &[u8], qubits: u8, gates: &[Gate]) -> Result<(), Fail> {
     let mut rows = [MARK; 16];
     match read(text, &mut rows) {
         Err(_) => Err(Fail::new("the text is refused")),
@@ -60,7 +60,7 @@ pub fn accepted(text: &[u8], qubits: u8, gates: &[Gate]) -> Result<(), Fail> {
             for (row, expected) in rows.iter().zip(gates.iter()) {
                 check_eq(*row, *expected)?;
             }
-            marked(&rows, gates.len())
+            check_marked(&rows, gates.len())
         }
     }
 }

@@ -1,0 +1,3 @@
+pub mod Counts
+pub mod Means
+pub mod Longest

@@ -1,0 +1,4 @@
+pub mod Trading
+pub mod LocalLaws
+pub mod OneGate
+pub mod Crossing
