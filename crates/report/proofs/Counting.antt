@@ -13,7 +13,8 @@ use Rattle.std.proofs.shelf.Sums.{sumBy-cons, countBy-more-yes, countBy-more-no
 use Rattle.rows.specs.declared.row.Gate.{Gate as GateRow}
 use Rattle.rows.specs.Steps.{Gate, gate-of}
 use Rattle.report.specs.declared.feature.Feature.{Feature}
-use Rattle.report.specs.Features.{shows, marked, counted, Decodes}
+use Rattle.chains.specs.Chained.{Decodes}
+use Rattle.report.specs.Features.{shows, marked, counted}
 
 pub decoded-count : (f : Feature) (n : ℕ) (rows : List GateRow) (gs : List Gate) → Decodes n rows gs → countBy (λ row. marked f (gate-of n row)) rows ≡ counted f gs
 decoded-count f n [] [] e = refl

@@ -1,15 +1,13 @@
 -- What the report counts gates by.
-use mathlib.Core.Path.{_≡_}
 use mathlib.Core.Bool.{Bool, false}
-use mathlib.Core.List.{List, map}
+use mathlib.Core.List.{List}
 use Prim.Native.Nat.{ℕ}
 use lib.Dec.{eqb}
 use Rattle.std.specs.shelf.Lists.{countBy}
 use Rattle.std.specs.declared.option.Option.{Option}
 use Rattle.std.specs.declared.option.Option.the-variants.{Some, None}
-use Rattle.rows.specs.declared.row.Gate.{Gate as GateRow}
 use Rattle.rows.specs.Kinds.{code, double}
-use Rattle.rows.specs.Steps.{Gate, kind-of, has, gate-of}
+use Rattle.rows.specs.Steps.{Gate, kind-of, has}
 use Rattle.report.specs.declared.feature.Feature.{Feature}
 
 -- the gate has the feature: it is of the kind, it stands on two qubits, or it takes the qubit
@@ -26,7 +24,3 @@ marked f (Some g) = shows f g
 -- how many gates have the feature
 abbrev pub counted : Feature → List Gate → ℕ
 counted f gs = countBy (shows f) gs
-
--- each of the rows is a good row of a circuit of n qubits, and they write these gates
-abbrev pub Decodes : ℕ → List GateRow → List Gate → Type 0
-Decodes n rows gs = map (gate-of n) rows ≡ map (λ g. Some g) gs

@@ -2,7 +2,8 @@
 ghost use mathlib.Core.Path.{_≡_};
 ghost use mathlib.Core.List.{List};
 ghost use Rattle.rows.specs.Steps.{Gate, kind-of, has, gate-at, gate-of};
-ghost use Rattle.report.specs.Features.{shows, marked, counted, Decodes};
+ghost use Rattle.chains.specs.Chained.{Decodes};
+ghost use Rattle.report.specs.Features.{shows, marked, counted};
 use crate::feature::Feature;
 use rows::Gate as GateRow;
 use rows::Kind;

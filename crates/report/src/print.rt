@@ -1,16 +1,19 @@
 // The lines of the report.
 ghost use mathlib.Core.Path.{_≡_};
 ghost use mathlib.Core.List.{List, _++_};
+ghost use Prim.Native.Nat.{ℕ, _<_, _≤_};
 ghost use lib.ListN.{length};
 ghost use Rattle.std.specs.Of.String.{string-bytes};
-ghost use Rattle.std.specs.Iters.{counting};
 ghost use Rattle.std.specs.shelf.Lists.{joined};
 ghost use Rattle.std.specs.Vec.{made};
 ghost use Rattle.rows.specs.Steps.{Gate};
-ghost use Rattle.report.specs.Features.{Decodes};
-ghost use Rattle.report.specs.Report.{entry, kinds, kind-line, qubit-line, circuit-report, refusal-line};
+ghost use Rattle.chains.specs.Chained.{Decodes, Deep, Source, Counts};
+ghost use Rattle.chains.specs.Sourced.{Sourced};
+ghost use Rattle.report.specs.Report.{entry, kinds, kind-line, qubit-line, Qubit-lines, counts-report, Shows, refusal-line};
 use crate::count::count;
 use crate::feature::Feature;
+use chains::Sources;
+use chains::depth_of;
 use rows::Fault;
 use rows::Gate as GateRow;
 use rows::Kind;
@@ -63,39 +66,68 @@ fn add_kinds(
     Ok(())
 }
 
-// Adds a line for each qubit: how many gates it takes.
+// The line of a qubit.
+fn qubit_line(
+    heap: Global,
+    rows: &[GateRow],
+    qubits: u8,
+    sources: &Sources,
+    q: u8,
+) -> Result<String, AllocError>
+    ensures { λ r. ⌜ made r (λ s. (gs : List Gate) → Decodes qubits (now (rows .entry)) gs → Sourced (now (sources .entry)) qubits gs → qubits ≤ 64 → q < qubits →
+        (m : ℕ) × Counts (Source qubits gs q) qubits m × (string-bytes s ≡ qubit-line gs q m)) ⌝ }
+{
+    let gates = count(rows, qubits, Feature::OnQubit(Logical(q)));
+    let from = sources.count(qubits, Logical(q));
+    let line = format!(heap, "q{q} {gates} {from}\n")?;
+    Ok(line)
+}
+
+// Adds a line for each qubit: how many gates it takes, and how many qubits its result can depend on.
 fn add_qubits(
     heap: Global,
     out: &mut String,
     rows: &[GateRow],
     qubits: u8,
+    sources: &Sources,
 ) -> Result<(), AllocError>
-    ensures { λ r. ⌜ made r (λ _. (gs : List Gate) → Decodes qubits (now (rows .entry)) gs →
-        string-bytes (now (out .exit)) ≡ string-bytes (now (out .entry)) ++ joined (qubit-line gs) (counting 0 qubits)) ⌝ }
+    ensures { λ r. ⌜ made r (λ _. (gs : List Gate) → Decodes qubits (now (rows .entry)) gs → Sourced (now (sources .entry)) qubits gs → qubits ≤ 64 →
+        (lines : List ℕ) × Qubit-lines qubits gs qubits lines × (string-bytes (now (out .exit)) ≡ string-bytes (now (out .entry)) ++ lines)) ⌝ }
 {
     for q in 0..qubits {
-        let word = format!(heap, "q{q}")?;
-        let n = count(rows, qubits, Feature::OnQubit(Logical(q)));
-        add_entry(heap, out, word.as_str(), n)?;
+        let line = qubit_line(heap, rows, qubits, sources, q)?;
+        out.push_str(line.as_str())?;
     }
+    Ok(())
+}
+
+// Adds the counts of a circuit and its depth.
+fn add_counts(
+    heap: Global,
+    out: &mut String,
+    qubits: u8,
+    rows: &[GateRow],
+) -> Result<(), AllocError>
+    ensures { λ r. ⌜ made r (λ _. (gs : List Gate) → Decodes qubits (now (rows .entry)) gs → 1 ≤ qubits → qubits ≤ 64 → length gs ≤ 4294967295 →
+        (d : ℕ) × Deep qubits gs d × (string-bytes (now (out .exit)) ≡ string-bytes (now (out .entry)) ++ counts-report qubits gs d)) ⌝ }
+{
+    add_entry(heap, out, "qubits", qubits as usize)?;
+    add_entry(heap, out, "gates", rows.len())?;
+    add_kinds(heap, out, rows, qubits, &all_kinds())?;
+    add_entry(heap, out, "two-qubit", count(rows, qubits, Feature::OnTwo))?;
+    let deep = depth_of(rows, qubits);
+    add_entry(heap, out, "depth", deep as usize)?;
     Ok(())
 }
 
 // The report on a circuit.
 pub(crate) fn show_circuit(heap: Global, qubits: u8, rows: &[GateRow]) -> Result<String, AllocError>
-    ensures { λ r. ⌜ made r (λ s. (gs : List Gate) → Decodes qubits (now (rows .entry)) gs → string-bytes s ≡ circuit-report qubits gs) ⌝ }
+    ensures { λ r. ⌜ made r (λ s. (gs : List Gate) → Decodes qubits (now (rows .entry)) gs → 1 ≤ qubits → qubits ≤ 64 → length gs ≤ 4294967295 → Shows qubits gs (string-bytes s)) ⌝ }
 {
     let mut out = String::new(heap);
-    add_entry(heap, &mut out, "qubits", qubits as usize)?;
-    add_entry(heap, &mut out, "gates", rows.len())?;
-    add_kinds(heap, &mut out, rows, qubits, &all_kinds())?;
-    add_entry(
-        heap,
-        &mut out,
-        "two-qubit",
-        count(rows, qubits, Feature::OnTwo),
-    )?;
-    add_qubits(heap, &mut out, rows, qubits)?;
+    add_counts(heap, &mut out, qubits, rows)?;
+    let sources = Sources::of(rows, qubits);
+    add_qubits(heap, &mut out, rows, qubits, &sources)?;
     Ok(out)
 }
 

@@ -22,7 +22,7 @@ use Rattle.lines.specs.Grammar.{heading, line-of, paired, Writes, Within, Doubl
 use Rattle.lines.proofs.Judging.{is-accepted}
 use Rattle.text.specs.declared.circuit.Circuit.{Circuit}
 use Rattle.text.specs.Reading.{onto, lines, skipped, Statement, statements, statements-of, Gates, Is-circuit, room, filled, Reading, Only-reading}
-use Rattle.text.specs.Writing.{Spaced, Unbroken, ended, Made-of, Small-circuit, Reads-back}
+use Rattle.text.specs.Writing.{Spaced, Unbroken, ended, Made-of, Small-circuit, Reads-back, Read-as}
 use Rattle.text.proofs.FirstLine.{line-then}
 use Rattle.text.proofs.Unique.{reading-same}
 
@@ -173,12 +173,15 @@ circuit-written rows [] n gs c e = absurd (omega (arith, ap length e))
 circuit-written rows (s ∷ ss) n gs c e =
     (record { some = c .some; few = c .few; is = ap (λ l. getD l 0 []) e }, gates-written n rows ss gs (c .few) (c .gates) (c .fit) (ap (drop 1) e))
 
-pub reads-back : (text : List ℕ) (old new : List GateRow) (r : Result Circuit Fault) → Reading text old new r → Reads-back text old new r
+reads-back : (text : List ℕ) (old new : List GateRow) (r : Result Circuit Fault) → Reading text old new r → Reads-back text old new r
 reads-back text old new r h n gs ls c sp m =
     let lines-are = statements-spaced 1 ls (heading n ∷ map line-of gs) (refl, gates-unskipped gs) sp in
     let written = circuit-written (room old) (statements 1 ls) n gs c lines-are in
     reading-same text old new (filled (map row-of-gate gs) old) r (Ok (record { qubits = n; gates = length gs })) h
     (gs, subst (λ ss. Is-circuit (room old) ss n gs) (sym (statements-made text ls m)) written, refl, refl)
 
-pub only-reading : (text : List ℕ) (old new : List GateRow) (r : Result Circuit Fault) → Reading text old new r → Only-reading text old new r
+only-reading : (text : List ℕ) (old new : List GateRow) (r : Result Circuit Fault) → Reading text old new r → Only-reading text old new r
 only-reading text old new r h rows s k = reading-same text old rows new s r k h
+
+pub read-as : (text : List ℕ) (old new : List GateRow) (r : Result Circuit Fault) → Reading text old new r → Read-as text old new r
+read-as text old new r h = record { reads = h; only = only-reading text old new r h; back = reads-back text old new r h }

@@ -2,10 +2,10 @@
 use mathlib.Core.Path.{_≡_, refl, sym, ap, subst, _∙_}
 use mathlib.Core.Logic.{_⊎_, inl, inr}
 use mathlib.Core.List.{List, [], _∷_, _++_, map}
-use Prim.Native.Nat.{ℕ, _+_, _≤_}
+use Prim.Native.Nat.{ℕ, _+_, _≤_, min}
 use native.Mathlib.Omega.{arith}
 use lib.ListN.{length, take, drop}
-use Rattle.std.specs.declared.result.Result.the-variants.{Ok}
+use Rattle.std.specs.declared.result.Result.the-variants.{Ok, Err}
 use Rattle.std.proofs.shelf.Lists.{length-map, take-at}
 use Rattle.rows.specs.declared.refusal.Fault.{Fault}
 use Rattle.rows.specs.declared.row.Gate.{Gate as GateRow}
@@ -13,6 +13,8 @@ use Rattle.rows.specs.Steps.{Gate, row-of-gate}
 use Rattle.text.specs.Reading.{lines, statements, statements-of, Statement, Gates, First-refused, Is-circuit, Is-refused, room, filled, Reading}
 use Rattle.text.specs.declared.circuit.Circuit.{Circuit}
 use Rattle.text.specs.Steps.{Headed, Not-headed, Filled, Found}
+use Rattle.text.specs.Writing.{Read-as}
+use Rattle.text.proofs.Back.{read-as}
 
 pub not-headed : (room : ℕ) (ss : List Statement) (f : Fault) → Not-headed ss f → Is-refused room ss f
 not-headed room [] f h = h
@@ -43,6 +45,10 @@ pub copied : (text : List ℕ) (c : Circuit) (table old new : List GateRow) → 
 copied text c table old new f e =
     let long : c .gates ≡ length (map row-of-gate (f .gs)) = f .counted ∙ sym (length-map (f .gs) row-of-gate) in
     (f .gs, f .circuit, f .counted, e ∙ (λ i. f .rows i ++ drop (long i) old))
+
+-- a refusal leaves any rows of that number as they are
+pub refused-as : (text : List ℕ) (lent : ℕ) (f : Fault) → Is-refused (min 1024 lent) (statements-of text) f → (old : List GateRow) → length old ≡ lent → Read-as text old old (Err f)
+refused-as text lent f h old e = read-as text old old (Err f) (subst (λ k. Is-refused (min 1024 k) (statements-of text) f) (sym e) h, refl)
 
 -- a lexer over all of a text has its statements before it
 pub from-start : (text rest : List ℕ) (passed : ℕ) → rest ≡ text → passed ≡ 0 → statements (passed + 1) (lines rest) ≡ statements-of text

@@ -13,7 +13,7 @@ use Rattle.rows.specs.declared.row.Gate.{Gate as GateRow}
 use Rattle.rows.specs.Steps.{Gate, row-of-gate, Good-gate}
 use Rattle.lines.specs.Grammar.{heading, line-of}
 use Rattle.text.specs.declared.circuit.Circuit.{Circuit}
-use Rattle.text.specs.Reading.{skipped, room, filled}
+use Rattle.text.specs.Reading.{skipped, room, filled, Reading, Only-reading}
 
 -- ls is ms with empty lines and comments put in anywhere
 abbrev pub Spaced : List (List ℕ) → List (List ℕ) → Type 0
@@ -47,3 +47,9 @@ Reads-back text old new r =
     (n : ℕ) (gs : List Gate) (ls : List (List ℕ)) → Small-circuit (room old) n gs →
     Spaced ls (heading n ∷ map line-of gs) → Made-of text ls →
     (r ≡ Ok (record { qubits = n; gates = length gs })) × (new ≡ filled (map row-of-gate gs) old)
+
+-- text, read into rows that held `old` and now hold `new`, gives this answer, and no other; a circuit written out is read back
+pub record Read-as (text : List ℕ) (old new : List GateRow) (r : Result Circuit Fault) : Type 0 where
+  pub reads : Reading text old new r
+  pub only : Only-reading text old new r
+  pub back : Reads-back text old new r

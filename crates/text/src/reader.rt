@@ -4,8 +4,10 @@ ghost use mathlib.Core.List.{List, [], _∷_, _++_, map};
 ghost use Prim.Native.Nat.{ℕ, _+_, _≤_, _<_, min};
 ghost use lib.ListN.{length, take, drop};
 ghost use Rattle.std.specs.Results.{Cases as ByOk};
-ghost use Rattle.text.specs.Reading.{lines, statements, statements-of, First-refused, Is-refused, Reading, Only-reading};
-ghost use Rattle.text.specs.Writing.{Reads-back};
+ghost use Rattle.std.specs.declared.result.Result.the-variants.{Err};
+ghost use Rattle.rows.specs.declared.row.Gate.{Gate};
+ghost use Rattle.text.specs.Reading.{lines, statements, statements-of, First-refused};
+ghost use Rattle.text.specs.Writing.{Read-as};
 ghost use Rattle.text.specs.Steps.{Headed, Not-headed, Filled, Found};
 use crate::circuit::Circuit;
 use crate::lexer::Lexer;
@@ -76,7 +78,7 @@ fn read_circuit(text: &[u8], lent: usize, table: &mut [Gate]) -> Result<Circuit,
     requires { ⌜ 1024 ≤ length (now table) ⌝ }
     ensures { λ r. ⌜ ByOk r
         (λ c. Found (min 1024 lent) (statements-of (now (text .entry))) c (now (table .exit)))
-        (λ f. Is-refused (min 1024 lent) (statements-of (now (text .entry))) f) ⌝ }
+        (λ f. (old : List Gate) → length old ≡ lent → Read-as (now (text .entry)) old old (Err f)) ⌝ }
 {
     let mut lexer = Lexer::new(text);
     let qubits = read_heading(&mut lexer)?;
@@ -84,9 +86,25 @@ fn read_circuit(text: &[u8], lent: usize, table: &mut [Gate]) -> Result<Circuit,
     Ok(Circuit { qubits, gates })
 }
 
-// Reads a circuit's text: all of it into a table first, and then the table into the rows.
-fn read_rows(text: &[u8], rows: &mut [Gate]) -> Result<Circuit, Fault>
-    ensures { λ r. ⌜ Reading (now (text .entry)) (now (rows .entry)) (now (rows .exit)) r ⌝ }
+// Hands the rows of the circuit of a text over from the table.
+fn deliver(
+    circuit: Circuit,
+    text: &[u8],
+    table: &[Gate],
+    rows: &mut [Gate],
+) -> Result<Circuit, Fault>
+    requires found { ⌜ Found (min 1024 (length (now rows))) (statements-of (now text)) circuit (now table) ⌝ }
+    requires tabled { ⌜ 1024 ≤ length (now table) ⌝ }
+    ensures { λ r. ⌜ Read-as (now (text .entry)) (now (rows .entry)) (now (rows .exit)) r ⌝ }
+{
+    copy_front(rows, table, circuit.gates);
+    Ok(circuit)
+}
+
+/// Reads a circuit's text: writes the row of each gate, from the front of `rows`, and answers the number of qubits and of gates.
+/// A text that is refused leaves all rows as they were: all of it is read into a table first.
+pub fn read(text: &[u8], rows: &mut [Gate]) -> Result<Circuit, Fault>
+    ensures { λ r. ⌜ Read-as (now (text .entry)) (now (rows .entry)) (now (rows .exit)) r ⌝ }
 {
     let mut table = [Gate {
         kind: 0,
@@ -95,16 +113,5 @@ fn read_rows(text: &[u8], rows: &mut [Gate]) -> Result<Circuit, Fault>
         k: 0,
     }; MOST];
     let circuit = read_circuit(text, rows.len(), &mut table)?;
-    copy_front(rows, &table, circuit.gates);
-    Ok(circuit)
-}
-
-/// Reads a circuit's text: writes the row of each gate, from the front of `rows`, and answers the number of qubits and of gates.
-/// A text that is refused leaves all rows as they were.
-pub fn read(text: &[u8], rows: &mut [Gate]) -> Result<Circuit, Fault>
-    ensures reads { λ r. ⌜ Reading (now (text .entry)) (now (rows .entry)) (now (rows .exit)) r ⌝ }
-    ensures only { λ r. ⌜ Only-reading (now (text .entry)) (now (rows .entry)) (now (rows .exit)) r ⌝ }
-    ensures back { λ r. ⌜ Reads-back (now (text .entry)) (now (rows .entry)) (now (rows .exit)) r ⌝ }
-{
-    read_rows(text, rows)
+    deliver(circuit, text, &table, rows)
 }

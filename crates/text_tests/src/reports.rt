@@ -12,7 +12,7 @@ fn a_circuit_with_a_few_gates(rt: LibcRuntime) -> Result<(), Fail> {
     check_report(
         &rt,
         b"qubits 3\nh q0\ncrk q0,q2,5\ncnot q2,q0\nh q2",
-        "qubits 3\ngates 4\nx 0\ny 0\nz 0\nh 2\ns 0\nsdag 0\nt 0\ntdag 0\ncnot 1\ncz 0\ncrk 1\ntwo-qubit 2\nq0 3\nq1 0\nq2 3\n",
+        "qubits 3\ngates 4\nx 0\ny 0\nz 0\nh 2\ns 0\nsdag 0\nt 0\ntdag 0\ncnot 1\ncz 0\ncrk 1\ntwo-qubit 2\ndepth 4\nq0 3 2\nq1 0 1\nq2 3 2\n",
     )
 }
 

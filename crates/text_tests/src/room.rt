@@ -1,7 +1,7 @@
 // How many gates a circuit may have.
 use crate::tools::MARK;
-use crate::tools::gate;
 use crate::tools::check_marked;
+use crate::tools::gate;
 use rows::FaultDebug;
 use rows::FaultPartialEq;
 use rows::Gate;

@@ -9,8 +9,8 @@ use Rattle.chains.proofs.count.count_below.Needs.{then-holds, else-holds}
 pub loop-j-again : need.loop-j-again
 loop-j-again c =
     elim (c .if-holds .came) [
-      then-holds w ↦ counts-yes (λ j. In j (c .args .set)) (c .loop-j .j) (c .loop-j .count) (c .if-holds .count) (c .loop-j .inv) (w .if-holds .ensures tt) (w .count-is)
-    | else-holds w ↦ counts-no (λ j. In j (c .args .set)) (c .loop-j .j) (c .loop-j .count) (c .if-holds .count) (c .loop-j .inv) (w .if-holds .ensures tt) (w .count-is)
+      | then-holds w ↦ counts-yes (λ j. In j (c .args .set)) (c .loop-j .j) (c .loop-j .count) (c .if-holds .count) (c .loop-j .inv) (w .if-holds .ensures tt) (w .count-is)
+      | else-holds w ↦ counts-no (λ j. In j (c .args .set)) (c .loop-j .j) (c .loop-j .count) (c .if-holds .count) (c .loop-j .inv) (w .if-holds .ensures tt) (w .count-is)
     ]
 
 pub returns : need.returns

@@ -4,7 +4,7 @@ use lib.ListN.{take}
 use Rattle.std.specs.Of.String.{string-bytes}
 use Rattle.std.specs.shelf.Lists.{joined}
 use Rattle.rows.specs.Steps.{Gate}
-use Rattle.report.specs.Features.{Decodes}
+use Rattle.chains.specs.Chained.{Decodes}
 use Rattle.report.specs.Report.{kind-line}
 use Rattle.report.proofs.print.add_kinds.Given as given
 

@@ -2,7 +2,7 @@ use mathlib.Core.Path.{_≡_}
 use native.Mathlib.Omega.{arith}
 use Rattle.std.specs.Of.String.{string-bytes}
 use Rattle.report.specs.Report.{Reports}
-use Rattle.report.proofs.FromReading.{made-so, reports-same, rows-fit, rows-decode, circuit-reported, refusal-reported}
+use Rattle.report.proofs.FromReading.{made-so, reports-same, rows-fit, rows-decode, circuit-reported, circuit-small, refusal-reported}
 use Rattle.report.proofs.whole.report_with.Needs as need
 
 pub part-show-circuit-end : need.part-show-circuit-end
@@ -15,8 +15,9 @@ returns-in-Ok c =
     let text = c .args .text .now in
     let rows = c .args .rows .now in
     let new = c .read .last .rows in
-    made-so (c .show-circuit .result) _ _ (λ s e. reports-same text _ (string-bytes s)
-    (circuit-reported text rows new (c .pre .many) (c .in-Ok .field-0) h (c .pre .short)) (e (h .0) (rows-decode text rows new (c .pre .many) (c .in-Ok .field-0) h)))
+    let small = circuit-small text rows new (c .pre .many) (c .in-Ok .field-0) h in
+    made-so (c .show-circuit .result) _ _ (λ s e. circuit-reported text rows new (c .pre .many) (c .in-Ok .field-0) h (c .pre .short) (string-bytes s)
+    (e (h .0) (rows-decode text rows new (c .pre .many) (c .in-Ok .field-0) h) (small .0) (small .1) (small .2)))
     (c .show-circuit .ensures)
 
 pub returns-in-Err : need.returns-in-Err

@@ -3,7 +3,7 @@ use Prim.Native.Nat.{min, _+_}
 use Rattle.std.proofs.shelf.Results.{err-from-errBy}
 use Rattle.text.specs.Reading.{lines, statements, statements-of, First-refused}
 use Rattle.text.specs.Steps.{Headed, Not-headed, Filled}
-use Rattle.text.proofs.Whole.{not-headed, refused-later, found, from-start}
+use Rattle.text.proofs.Whole.{not-headed, refused-later, refused-as, found, from-start}
 use Rattle.text.proofs.reader.read_circuit.Needs as need
 use Rattle.text.proofs.reader.read_circuit.Needs.{After-new-lexer}
 
@@ -15,7 +15,7 @@ pub returns-in-Break-qubits : need.returns-in-Break-qubits
 returns-in-Break-qubits c =
     let p = err-from-errBy (c .from-residual .result) (c .from-residual .ensures .1) in
     let f = c .in-Break-qubits .field-0 .0 in
-    rw (p .1, p .2) (not-headed (min 1024 (c .args .lent)) (statements-of (c .args .text .now)) f (subst (λ ss. Not-headed ss f) (start (need.at·returns-in-Break-qubits c .After-new-lexer)) (c .in-Break-qubits .ensures tt)))
+    rw (p .1, p .2) (refused-as (c .args .text .now) (c .args .lent) f (not-headed (min 1024 (c .args .lent)) (statements-of (c .args .text .now)) f (subst (λ ss. Not-headed ss f) (start (need.at·returns-in-Break-qubits c .After-new-lexer)) (c .in-Break-qubits .ensures tt))))
 
 pub returns-in-Break-gates : need.returns-in-Break-gates
 returns-in-Break-gates c =
@@ -25,7 +25,7 @@ returns-in-Break-gates c =
     let n = c .in-Continue-qubits .qubits in
     let headed = subst (λ ss. Headed ss n rest) (start (need.at·returns-in-Break-gates c .After-new-lexer)) (c .in-Continue-qubits .ensures tt) in
     let later = subst (λ k. First-refused n k rest f) (c .room-for .ensures) (c .in-Break-gates .ensures tt) in
-    rw (p .1, p .2) (refused-later (min 1024 (c .args .lent)) (statements-of (c .args .text .now)) rest n f headed later)
+    rw (p .1, p .2) (refused-as (c .args .text .now) (c .args .lent) f (refused-later (min 1024 (c .args .lent)) (statements-of (c .args .text .now)) rest n f headed later))
 
 pub returns : need.returns
 returns c =

@@ -12,7 +12,7 @@ returns c gs s few lt =
     let q = c .args .q .0 in
     let all : c .min .result ≡ n = omega (arith, c .min .ensures) in
     let counted : Counts (λ j. In j (c .read .result)) n (c .count-below .result) =
-        subst (λ k. Counts (λ j. In j (c .read .result)) k (c .count-below .result)) all (c .count-below .ensures) in
+    subst (λ k. Counts (λ j. In j (c .read .result)) k (c .count-below .result)) all (c .count-below .ensures) in
     counts-same (λ j. In j (c .read .result)) (Source n gs q) n (c .count-below .result)
     (λ j h. s q j lt .0 (subst (In j) (c .read .ensures) h))
     (λ j h. subst (In j) (sym (c .read .ensures)) (s q j lt .1 h))
