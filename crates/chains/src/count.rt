@@ -1,9 +1,12 @@
 // How many wires a set holds.
 ghost use mathlib.Core.Path.{_≡_};
+ghost use mathlib.Core.List.{List};
 ghost use Prim.Native.Nat.{ℕ, _<_, _≤_};
+ghost use Rattle.rows.specs.Steps.{Gate};
 ghost use Rattle.std.specs.Orderings.{When};
 ghost use Rattle.cone.specs.Sets.{In};
-ghost use Rattle.chains.specs.Chained.{Counts};
+ghost use Rattle.chains.specs.Chained.{Counts, Source};
+ghost use Rattle.chains.specs.Sourced.{Source-set};
 
 // Whether wire j is in the set.
 fn holds(set: u64, j: u8) -> bool
@@ -14,7 +17,7 @@ fn holds(set: u64, j: u8) -> bool
 }
 
 // How many of the wires below n the set holds.
-pub(crate) fn count_below(set: u64, n: u8) -> u8
+fn count_wires(set: u64, n: u8) -> u8
     requires { ⌜ n ≤ 64 ⌝ }
     ensures { λ r. ⌜ Counts (λ j. In j set) n r ⌝ }
 {
@@ -25,4 +28,11 @@ pub(crate) fn count_below(set: u64, n: u8) -> u8
         }
     }
     count
+}
+
+// How many of n qubits the set holds; of more than 64 the first 64 count.
+pub(crate) fn count_sources(set: u64, n: u8) -> u8
+    ensures { λ r. ⌜ ((gs : List Gate) (q : ℕ) → Source-set set n gs q → n ≤ 64 → Counts (Source n gs q) n r) ⌝ }
+{
+    count_wires(set, n.min(64))
 }

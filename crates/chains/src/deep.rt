@@ -9,6 +9,7 @@ ghost use Rattle.depth.specs.Counts.{depth-rule};
 ghost use Rattle.depth.specs.Means.{depth-means};
 ghost use Rattle.chains.specs.Chained.{Decodes, Deep};
 ghost use Rattle.chains.specs.Greatest.{Greatest};
+ghost use Rattle.chains.specs.Sourced.{Counted};
 use crate::play::play;
 use depth::Depth;
 use depth::DepthMachine;
@@ -27,11 +28,25 @@ fn greatest(machine: &Depth, n: u8) -> u64
     most
 }
 
+// The counts of the wires after a circuit of at most 64 qubits.
+fn counts_of(rows: &[GateRow], qubits: u8) -> Depth
+    ensures { λ r. ⌜ ((gs : List Gate) → Decodes qubits (now (rows .entry)) gs → qubits ≤ 64 → Counted r qubits gs) ⌝ }
+{
+    let mut machine = Depth::fresh(qubits);
+    play(&mut machine, rows);
+    machine
+}
+
+// The length of the longest chain, by the counts of the wires below n.
+fn longest(machine: &Depth, n: u8) -> u64
+    ensures { λ r. ⌜ ((gs : List Gate) → Counted (now (machine .entry)) n gs → 1 ≤ n → length gs ≤ 4294967295 → Deep n gs r) ⌝ }
+{
+    greatest(machine, n)
+}
+
 /// How deep a circuit of 1 to 64 qubits is: the length of its longest chain of gates, if there are at most 4,294,967,295.
 pub fn depth_of(rows: &[GateRow], qubits: u8) -> u64
     ensures { λ r. ⌜ ((gs : List Gate) → Decodes qubits (now (rows .entry)) gs → 1 ≤ qubits → qubits ≤ 64 → length gs ≤ 4294967295 → Deep qubits gs r) ⌝ }
 {
-    let mut machine = Depth::fresh(qubits);
-    play(&mut machine, rows);
-    greatest(&machine, qubits)
+    longest(&counts_of(rows, qubits), qubits)
 }

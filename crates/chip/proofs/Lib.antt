@@ -1,0 +1,7 @@
+pub mod Walks
+pub mod Reaching
+pub mod Reading
+pub mod Refusing
+pub mod Making
+pub mod Chips
+pub mod Worked

@@ -1,0 +1,5 @@
+pub mod Charts
+pub mod Tables
+pub mod Entries
+pub mod Chips
+pub mod Worked

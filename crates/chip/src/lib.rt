@@ -1,0 +1,6 @@
+//! A chip from its records: couplings, durations and shortest distances.
+mod chip;
+mod reach;
+mod records;
+
+pub use chip::Chip;
