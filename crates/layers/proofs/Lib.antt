@@ -1,0 +1,3 @@
+pub mod OneToOne
+pub mod ThreeCnots
+pub mod PanelLaws

@@ -1,0 +1,3 @@
+pub mod ThreeCnots
+pub mod Tests
+pub mod Table

@@ -1,0 +1,4 @@
+pub mod Letters
+pub mod Means
+pub mod Matrices
+pub mod Conjugation
