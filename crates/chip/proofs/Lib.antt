@@ -5,3 +5,4 @@ pub mod Refusing
 pub mod Making
 pub mod Chips
 pub mod Worked
+pub mod Settled

@@ -65,11 +65,11 @@ three = turned-10 3 pair-records (record { some-wire = omega arith; not-many = o
 square-walks : (v : ℕ) → v < 4 → (d : ℕ) × Walk (chart 4 square-records) d 0 v
 square-walks v l = ⊎-elim
     (λ (e : v ≡ 0). (0, sym e))
-    (λ n0. ⊎-elim
+    (λ not-0. ⊎-elim
     (λ (e : v ≡ 1). (1, (1, refl, sym e)))
-    (λ n1. ⊎-elim
+    (λ not-1. ⊎-elim
     (λ (e : v ≡ 2). (1, (2, refl, sym e)))
-    (λ n2. (2, (1, refl, (3, refl, let e : 3 ≡ v = omega arith in e))))
+    (λ not-2. (2, (1, refl, (3, refl, let e : 3 ≡ v = omega arith in e))))
     (cases-eq v 2))
     (cases-eq v 1))
     (cases-eq v 0)

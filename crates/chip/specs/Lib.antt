@@ -1,5 +1,5 @@
 pub mod Charts
 pub mod Tables
 pub mod Entries
-pub mod Chips
 pub mod Worked
+pub mod Chips

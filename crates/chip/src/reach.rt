@@ -10,7 +10,7 @@ ghost use Rattle.chip.specs.Tables.{flag-at, links, Found, size, Level, Grown,
 
 /// The wires found so far, and by how many couplings each was reached.
 #[derive(Clone, Copy)]
-pub struct Reach {
+pub(crate) struct Reach {
     pub found: [bool; 64],
     pub steps: [u8; 64],
 }
@@ -90,7 +90,7 @@ impl Reach {
 }
 
 /// The wires that wire `a` reaches, with their distances.
-pub fn reach_from(table: &[[bool; 64]; 64], a: usize) -> Reach
+pub(crate) fn reach_from(table: &[[bool; 64]; 64], a: usize) -> Reach
     requires wire { ⌜ a < 64 ⌝ }
     requires inside { ⌜ Inside (links (now table)) ⌝ }
     ensures { λ r. ⌜ All-reached (now (table .entry)) a (r .found) (r .steps) ⌝ }
@@ -104,7 +104,7 @@ pub fn reach_from(table: &[[bool; 64]; 64], a: usize) -> Reach
 }
 
 /// The distances from each of the first `n` wires.
-pub fn distances(table: &[[bool; 64]; 64], n: usize) -> [[u8; 64]; 64]
+pub(crate) fn distances(table: &[[bool; 64]; 64], n: usize) -> [[u8; 64]; 64]
     requires wires { ⌜ n ≤ 64 ⌝ }
     requires inside { ⌜ Inside (links (now table)) ⌝ }
     ensures { λ r. ⌜ ((a : ℕ) → a < n → Distances (now (table .entry)) a (getD r a [])) ⌝ }

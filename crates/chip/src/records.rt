@@ -112,7 +112,7 @@ impl Draft {
 }
 
 /// Reads the records, up to the first bad one.
-pub fn read_records(wires: u8, records: &[u8]) -> Result<Draft, Fault>
+pub(crate) fn read_records(wires: u8, records: &[u8]) -> Result<Draft, Fault>
     requires { ⌜ Even wires (now records) ⌝ }
     ensures { λ r. ⌜ Cases r (λ d. Read wires (now (records .entry)) (length (now (records .entry)) / 4) (d .couplings) (d .durations)) (λ f. Turned (Chip-fits wires (now (records .entry))) f) ⌝ }
 {

@@ -32,7 +32,7 @@ fn answer(wires: u8, records: &[u8]) -> (u8, usize) {
     }
 }
 
-fn holds(heap: Global, case: &Case) -> Result<(), Fail> {
+fn check_case(heap: Global, case: &Case) -> Result<(), Fail> {
     let bytes = bytes_of(heap, case.timed, case.records)?;
     let (number, place) = answer(case.wires, &bytes);
     check_eq(number, case.number)?;
@@ -42,7 +42,7 @@ fn holds(heap: Global, case: &Case) -> Result<(), Fail> {
 #[test]
 fn cases(rt: LibcRuntime) -> Result<(), Fail> {
     for case in CASES.iter() {
-        holds(rt.alloc(), case)?;
+        check_case(rt.alloc(), case)?;
     }
     Ok(())
 }

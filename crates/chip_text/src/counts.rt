@@ -7,7 +7,7 @@ use chip::Chip;
 use rows::Wire;
 
 /// With how many wires wire `a` is coupled.
-pub fn degree(chip: &Chip, a: u8) -> u8
+pub(crate) fn degree(chip: &Chip, a: u8) -> u8
     ensures { λ r. ⌜ r ≡ degree-of (chart-of (now (chip .entry))) a ⌝ }
 {
     let mut count = 0;
@@ -20,7 +20,7 @@ pub fn degree(chip: &Chip, a: u8) -> u8
 }
 
 /// The distance of two wires of the chip.
-pub fn distance(chip: &Chip, a: u8, b: u8) -> u8
+pub(crate) fn distance(chip: &Chip, a: u8, b: u8) -> u8
     ensures { λ r. ⌜ ((far : ℕ → ℕ → ℕ) → Far (chart-of (now (chip .entry))) far → (a < chart-of (now (chip .entry)) .wires) × (b < chart-of (now (chip .entry)) .wires) → r ≡ far a b) ⌝ }
 {
     match chip.distance(Wire(a), Wire(b)) {
@@ -41,7 +41,7 @@ fn farthest(chip: &Chip, a: u8) -> u8
 }
 
 /// The largest distance of two wires.
-pub fn diameter(chip: &Chip) -> u8
+pub(crate) fn diameter(chip: &Chip) -> u8
     ensures { λ r. ⌜ ((far : ℕ → ℕ → ℕ) → Far (chart-of (now (chip .entry))) far → r ≡ diameter-of (chart-of (now (chip .entry)) .wires) far) ⌝ }
 {
     let mut most = 0;

@@ -39,7 +39,7 @@ fn couplings_of(out: &mut String, heap: Global, chip: &Chip, a: u8) -> Result<()
 }
 
 /// All couplings, the lower wire first.
-pub fn couplings(out: &mut String, heap: Global, chip: &Chip) -> Result<(), AllocError>
+pub(crate) fn couplings(out: &mut String, heap: Global, chip: &Chip) -> Result<(), AllocError>
     ensures { λ r. ⌜ made r (λ _. string-bytes (now (out .exit)) ≡ string-bytes (now (out .entry)) ++ couplings-text (chart-of (now (chip .entry)))) ⌝ }
 {
     for a in 0..chip.wires() {
@@ -67,7 +67,7 @@ fn duration(out: &mut String, heap: Global, chip: &Chip, code: u8) -> Result<(),
 }
 
 /// The durations of all kinds, and of the exchange.
-pub fn durations(out: &mut String, heap: Global, chip: &Chip) -> Result<(), AllocError>
+pub(crate) fn durations(out: &mut String, heap: Global, chip: &Chip) -> Result<(), AllocError>
     ensures { λ r. ⌜ made r (λ _. string-bytes (now (out .exit)) ≡ string-bytes (now (out .entry)) ++ durations-text (chart-of (now (chip .entry)))) ⌝ }
 {
     for i in 0..12 {
@@ -112,7 +112,7 @@ fn distances_line(out: &mut String, heap: Global, chip: &Chip, a: u8) -> Result<
 }
 
 /// The distances of every two wires, a line for each wire.
-pub fn distances(out: &mut String, heap: Global, chip: &Chip) -> Result<(), AllocError>
+pub(crate) fn distances(out: &mut String, heap: Global, chip: &Chip) -> Result<(), AllocError>
     ensures { λ r. ⌜ made r (λ _. (far : ℕ → ℕ → ℕ) → Far (chart-of (now (chip .entry))) far → string-bytes (now (out .exit)) ≡ string-bytes (now (out .entry)) ++ distances-text (chart-of (now (chip .entry)) .wires) far) ⌝ }
 {
     for a in 0..chip.wires() {
@@ -130,7 +130,7 @@ fn degree_line(out: &mut String, heap: Global, chip: &Chip, a: u8) -> Result<(),
 }
 
 /// Each wire's degree.
-pub fn degrees(out: &mut String, heap: Global, chip: &Chip) -> Result<(), AllocError>
+pub(crate) fn degrees(out: &mut String, heap: Global, chip: &Chip) -> Result<(), AllocError>
     ensures { λ r. ⌜ made r (λ _. string-bytes (now (out .exit)) ≡ string-bytes (now (out .entry)) ++ degrees-text (chart-of (now (chip .entry)))) ⌝ }
 {
     for a in 0..chip.wires() {

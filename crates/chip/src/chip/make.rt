@@ -4,11 +4,10 @@ ghost use mathlib.Core.Bool.{true, false};
 ghost use Prim.Native.Nat.{ℕ, _<_, _≤_};
 ghost use lib.ListN.{getD};
 ghost use Rattle.std.specs.Options.{Cases as BySome};
-ghost use Rattle.std.specs.Vec.{made};
-ghost use Rattle.std.specs.declared.result.Result.{Result};
-ghost use Rattle.chip.specs.Charts.{Good-chart};
-ghost use Rattle.chip.specs.Chips.{chart-of, Chip-answer, Same-answer};
-ghost use Rattle.chip.specs.Worked.{Worked-chips};
+ghost use Rattle.std.specs.Results.{Cases};
+ghost use Rattle.std.specs.declared.result.Result.the-variants.{Err};
+ghost use Rattle.chip.specs.Charts.{Even};
+ghost use Rattle.chip.specs.Chips.{Chip-answer, Made-chip};
 use crate::chip::Chip;
 use crate::reach::distances;
 use crate::reach::reach_from;
@@ -45,9 +44,9 @@ fn missing(found: &[bool; 64], n: usize) -> Option<usize>
     None
 }
 
-/// The chip that records give, or the first refusal.
-fn build(wires: u8, records: &[u8]) -> Result<Chip, Fault>
-    ensures { λ r. ⌜ Chip-answer wires (now (records .entry)) r ⌝ }
+/// Refuses a number of wires that is not 1 to 64, and bytes that are not by four.
+fn even(wires: u8, records: &[u8]) -> Result<(), Fault>
+    ensures { λ r. ⌜ Cases r (λ _. Even wires (now (records .entry))) (λ f. Made-chip wires (now (records .entry)) (Err f)) ⌝ }
 {
     if wires < 1 || wires > 64 || records.len() % 4 != 0 {
         return Err(Fault {
@@ -55,6 +54,14 @@ fn build(wires: u8, records: &[u8]) -> Result<Chip, Fault>
             place: 0,
         });
     }
+    Ok(())
+}
+
+/// The chip that records give, or the first refusal.
+fn build(wires: u8, records: &[u8]) -> Result<Chip, Fault>
+    requires { ⌜ Even wires (now records) ⌝ }
+    ensures { λ r. ⌜ Chip-answer wires (now (records .entry)) r ⌝ }
+{
     let draft = read_records(wires, records)?;
     if let Some(kind) = lacking(&draft.durations) {
         return Err(Fault {
@@ -78,14 +85,20 @@ fn build(wires: u8, records: &[u8]) -> Result<Chip, Fault>
     })
 }
 
+/// The same, with what holds of every answer.
+fn chip_of(wires: u8, records: &[u8]) -> Result<Chip, Fault>
+    requires { ⌜ Even wires (now records) ⌝ }
+    ensures { λ r. ⌜ Made-chip wires (now (records .entry)) r ⌝ }
+{
+    build(wires, records)
+}
+
 impl Chip {
     /// The chip of so many wires that the records give, four bytes each, or the refusal of lowest rank at its first place.
     pub fn new(wires: u8, records: &[u8]) -> Result<Chip, Fault>
-        ensures answer { λ r. ⌜ Chip-answer wires (now (records .entry)) r ⌝ }
-        ensures only { λ r. ⌜ ((other : Result Chip Fault) → Chip-answer wires (now (records .entry)) other → Same-answer r other) ⌝ }
-        ensures good { λ r. ⌜ made r (λ c. Good-chart (chart-of c)) ⌝ }
-        ensures worked { λ _. ⌜ Worked-chips ⌝ }
+        ensures { λ r. ⌜ Made-chip wires (now (records .entry)) r ⌝ }
     {
-        build(wires, records)
+        even(wires, records)?;
+        chip_of(wires, records)
     }
 }

@@ -2,17 +2,8 @@ use borrow.Author.Needs.{needs}
 use native.Mathlib.Omega.{arith}
 use mathlib.Core.Path.{refl}
 use Rattle.chip.specs.Charts.{Even}
-use Rattle.chip.proofs.Refusing.{turned-7}
 use Rattle.chip.proofs.Making.{chart-is, chart-inside, chart-symmetric, chart-irreflexive, links-inside, made-timed, made-9, made-10, made-accepted, made-distant, made-near}
 use Rattle.chip.proofs.chip.make.build.Needs as need
-use Rattle.chip.proofs.chip.make.build.Needs.{then-wires-lt1·by·then-wires-lt1, then-wires-lt1·by·else-wires-lt1·then-wires-gt64, then-wires-lt1·by·else-wires-lt1·else-wires-gt64·then-records-ne0}
-
-pub returns-then-wires-lt1 : need.returns-then-wires-lt1
-returns-then-wires-lt1 c = turned-7 (c .args .wires) (c .args .records .now) (λ e. elim (c .then-wires-lt1 .came) [
-  | then-wires-lt1·by·then-wires-lt1 w ↦ omega arith
-  | then-wires-lt1·by·else-wires-lt1·then-wires-gt64 w ↦ omega arith
-  | then-wires-lt1·by·else-wires-lt1·else-wires-gt64·then-records-ne0 w ↦ omega arith
-])
 
 pub returns-in-Some : need.returns-in-Some
 returns-in-Some c =
