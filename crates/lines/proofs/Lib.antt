@@ -1,4 +1,3 @@
-pub mod Peel
 pub mod Runs
 pub mod Decimal
 pub mod Suits

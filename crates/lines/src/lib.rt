@@ -3,7 +3,6 @@ mod gate;
 mod heading;
 mod line;
 mod number;
-mod opening;
 mod operands;
 mod token;
 mod written;

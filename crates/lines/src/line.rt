@@ -3,9 +3,9 @@ ghost use Rattle.std.specs.Options.{Cases as BySome};
 ghost use Rattle.rows.specs.Steps.{Gate};
 ghost use Rattle.lines.specs.Grammar.{Writes, gate-in};
 use crate::number::number;
-use crate::opening::opening;
 use crate::operands::second;
 use crate::written::Written;
+use names::opening;
 
 // The gate that `line` writes.
 pub(crate) fn parse_gate(line: &[u8]) -> Option<Written>

@@ -50,10 +50,10 @@ impl<'a> Lexer<'a> {
         }
     }
 
-    /// The next statement, if there is one more.
+    /// The next statement, if there is one more; else all of the text is passed.
     pub fn next(&mut self) -> Option<Word<'a>>
         ensures statement { λ r. ⌜ BySome r
-            (statements (now (self .entry) .passed + 1) (lines (now (self .entry) .rest .now)) ≡ [])
+            ((statements (now (self .entry) .passed + 1) (lines (now (self .entry) .rest .now)) ≡ []) × (now (self .exit) .rest .now ≡ []))
             (λ w. statements (now (self .entry) .passed + 1) (lines (now (self .entry) .rest .now))
             ≡ record { number = w .line; bytes = now (w .bytes) } ∷ statements (now (self .exit) .passed + 1) (lines (now (self .exit) .rest .now))) ⌝ }
         ensures token { λ r. ⌜ BySome r (Unit {0}) (λ w. (after : List ℕ) × Fronts (now (w .bytes)) (w .token) after) ⌝ }

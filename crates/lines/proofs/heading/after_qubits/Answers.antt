@@ -1,6 +1,6 @@
 use borrow.Author.Needs.{needs}
 use lib.Chars.{codes}
-use Rattle.lines.proofs.Peel.{peel, reads-from}
+use Rattle.names.proofs.Peel.{peel, reads-from}
 use Rattle.lines.proofs.heading.after_qubits.Needs as need
 
 pub returns-in-113 : need.returns-in-113

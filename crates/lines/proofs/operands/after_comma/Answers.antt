@@ -1,6 +1,6 @@
 use borrow.Author.Needs.{needs}
 use lib.Chars.{codes}
-use Rattle.lines.proofs.Peel.{peel, reads-from}
+use Rattle.names.proofs.Peel.{peel, reads-from}
 use Rattle.lines.proofs.operands.after_comma.Needs as need
 
 pub returns-in-44 : need.returns-in-44

@@ -1,6 +1,6 @@
 use borrow.Author.Needs.{needs}
 use Rattle.std.proofs.shelf.Lists.{nil-from-length}
-use Rattle.lines.proofs.Peel.{first-and-rest, first-and-rest-of}
+use Rattle.names.proofs.Peel.{first-and-rest, first-and-rest-of}
 use Rattle.lines.proofs.token.front.Needs as need
 
 pub returns-in-rest : need.returns-in-rest

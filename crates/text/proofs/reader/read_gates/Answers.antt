@@ -16,4 +16,4 @@ loop-word-again c =
     reached-more (c .args .qubits) (c .args .room) _ _ _ _ (c .loop-word .count) (c .args .table .now) (c .loop-word .table) (c .in-Some .ensures tt .statement) (c .loop-word .inv) (row .1 .0) (c .in-Continue-table .field-0) (row .0) (row .1 .1) (row .1 .2) (c .pre)
 
 pub returns : need.returns
-returns c = all-filled _ _ _ _ _ _ _ (c .loop-word .inv) (c .in-rest .ensures tt .statement)
+returns c = all-filled _ _ _ _ _ _ _ (c .loop-word .inv) (c .in-rest .ensures tt .statement .0)

@@ -9,4 +9,4 @@ use Rattle.text.proofs.lexer.Lexer.next.Needs as need
 pub returns : need.returns
 returns c =
     let none : c .loop-line .self .rest .now ≡ [] = nil-from-length _ (true-eqb _ 0 (c .loop-line-test .ensures tt)) in
-    record { statement = c .loop-line .inv .0 ∙ ap (λ s. statements (c .loop-line .self .passed + 1) (lines s)) none; token = tt; shorter = tt }
+    record { statement = (c .loop-line .inv .0 ∙ ap (λ s. statements (c .loop-line .self .passed + 1) (lines s)) none, none); token = tt; shorter = tt }

@@ -4,8 +4,8 @@ use Prim.Native.Nat.{ℕ}
 use borrow.Author.Needs.{needs}
 use lib.Chars.{codes}
 use Rattle.rows.specs.declared.kind.Kind.{Kind}
-use Rattle.lines.proofs.Peel.{peel, reads-from}
-use Rattle.lines.proofs.opening.opening.Needs as need
+use Rattle.names.proofs.Peel.{peel, reads-from}
+use Rattle.names.proofs.opening.Needs as need
 
 -- no arm took the line, so it does not begin with this name
 no-x : (c : need.In-rest) (rest : List ℕ) → c .args .line .now ≡ codes "x q" ++ rest → ⊥

@@ -1,4 +1,4 @@
-// How a line begins: a name, a space and `q`.
+//! How the line of a gate begins: the name of its kind, a space and `q`.
 ghost use mathlib.Core.Path.{_≡_};
 ghost use mathlib.Core.List.{List, _++_};
 ghost use Prim.Native.Nat.{ℕ};
@@ -8,8 +8,8 @@ ghost use Rattle.rows.specs.Kinds.{name};
 ghost use Rattle.std.specs.Options.{Cases as BySome};
 use rows::Kind;
 
-// The kind whose name `line` begins with, and what comes after the `q` of its first qubit.
-pub(crate) fn opening(line: &[u8]) -> Option<(Kind, &[u8])>
+/// The kind whose name `line` begins with, and what comes after the `q` of its first qubit.
+pub fn opening(line: &[u8]) -> Option<(Kind, &[u8])>
     ensures { λ r. ⌜ BySome r ((κ : Kind) (rest : List ℕ) → ¬ (now (line .entry) ≡ name κ ++ (codes " q" ++ rest))) (λ x. now (line .entry) ≡ name (x .0) ++ (codes " q" ++ now (x .1))) ⌝ }
 {
     match line {
