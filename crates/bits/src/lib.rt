@@ -1,4 +1,7 @@
 //! Bits: a classical bit a wire.
+
+#![tactic(auto)]
+
 ghost use Rattle.std.specs.Prelude.{◌≡◌, Bool, false, min};
 ghost use Rattle.machine.specs.Local.{Cells, local};
 ghost use Rattle.machine.specs.Machines.{HasTrueCnot};

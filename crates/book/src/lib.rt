@@ -1,4 +1,7 @@
 //! The book of a laid plan: what is done and kept, the verdict on a step, and keeping it.
+
+#![tactic(auto)]
+
 mod book;
 mod log;
 mod verdict;

@@ -1,4 +1,7 @@
 //! Worked cases of sheets on the square chip: established from the definitions, and run.
+
+#![tactic(auto)]
+
 ghost use Rattle.std.specs.Prelude.{◌≡◌, MatchResult};
 ghost use Rattle.sheet.specs.Sheets.{fresh};
 ghost use Rattle.plan.specs.Laying.{plan_in};

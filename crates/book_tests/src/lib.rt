@@ -1,5 +1,8 @@
 //! Tests of the book: which layouts and steps are refused, by which number and at which place, what is kept, and what
 //! the book shows. All expected values are worked out by hand from the rules.
+
+#![tactic(auto)]
+
 #[cfg(test)]
 mod full;
 #[cfg(test)]

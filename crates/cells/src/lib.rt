@@ -1,4 +1,7 @@
 //! Tables of cells, one a wire, under the gates of a local rule.
+
+#![tactic(auto)]
+
 mod rule;
 mod table;
 mod width;

@@ -1,4 +1,7 @@
 //! How deep a circuit is, and which qubits the result of a qubit can depend on.
+
+#![tactic(auto)]
+
 mod count;
 mod deep;
 mod play;

@@ -1,5 +1,8 @@
 //! Reads a circuit's text, a line `steps` and steps, one a line, on standard input. Keeps the book of the circuit on a chip,
 //! and prints the answer to each step, and what is counted. The first argument names the chip; without one it is the square.
+
+#![tactic(auto)]
+
 use anyhow::anyhow;
 use check_text::{Reply, reply};
 use shipped::{Shipped, chip_named};

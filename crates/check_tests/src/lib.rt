@@ -1,4 +1,7 @@
 //! Tests of the replies of the program `check`, worked from the rules.
+
+#![tactic(auto)]
+
 #[cfg(test)]
 mod lines;
 #[cfg(test)]

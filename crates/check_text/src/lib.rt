@@ -1,4 +1,7 @@
 //! What the program `check` answers to its input: a circuit's text, a line `steps`, and the steps, one a line.
+
+#![tactic(auto)]
+
 mod answer;
 mod cut;
 mod print;

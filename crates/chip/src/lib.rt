@@ -1,4 +1,7 @@
 //! A chip from its records: couplings, durations and shortest distances.
+
+#![tactic(auto)]
+
 mod chip;
 mod reach;
 mod records;

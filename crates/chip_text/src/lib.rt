@@ -1,4 +1,7 @@
 //! What the program `chips` prints, as a function on bytes.
+
+#![tactic(auto)]
+
 mod counts;
 mod report;
 mod sections;

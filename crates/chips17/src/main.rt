@@ -1,3 +1,5 @@
+#![tactic(auto)]
+
 // Reads a chip file on standard input: one byte for the number of wires, then the records, four bytes each.
 // Prints the chip's couplings, durations, distances, diameter and degrees, or the refusal.
 use chip_text::chip_report;

@@ -1,4 +1,7 @@
 //! Reads a circuit's text on standard input and prints the report on it.
+
+#![tactic(auto)]
+
 use report::report;
 use std::io::Read;
 

@@ -1,4 +1,7 @@
 //! Cone: the wires that each wire's result can depend on.
+
+#![tactic(auto)]
+
 ghost use Rattle.std.specs.Prelude.{◌≡◌, ℕ, ◌^◌, min, false, map};
 ghost use Rattle.std.specs.List.{range_with_len};
 ghost use Rattle.machine.specs.Local.{Cells, local};

@@ -1,4 +1,7 @@
 //! Depth: how many gates stand one after the other on the way to each wire.
+
+#![tactic(auto)]
+
 ghost use Rattle.std.specs.Prelude.{◌≡◌, ℕ, min, false};
 ghost use Rattle.machine.specs.Local.{Cells, local};
 ghost use Rattle.cells.specs.Tables.{made_of};

@@ -1,4 +1,7 @@
 //! One line of a circuit's text: its tokens, the number of qubits that it gives, the gate that it writes.
+
+#![tactic(auto)]
+
 mod gate;
 mod heading;
 mod line;

@@ -1,4 +1,7 @@
 //! What runs under a bench: the interface of machines and its laws, and the notion of a local machine.
+
+#![tactic(auto)]
+
 ghost use Rattle.std.specs.Prelude.{◌≡◌, true};
 ghost use Rattle.rows.specs.Steps.{gate_on};
 ghost use Rattle.machine.specs.Machines.{Acts, Lawful, Crosses};

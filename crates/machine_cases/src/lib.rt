@@ -1,4 +1,7 @@
 //! Worked cases of the machines: established from the rules, and run.
+
+#![tactic(auto)]
+
 ghost use Rattle.std.specs.Prelude.{◌≡◌, true, [], ◌∷◌};
 ghost use Rattle.machine_cases.specs.Cases.{MachineCases};
 

@@ -1,4 +1,7 @@
 //! Tests of the machines and of layers over them, against values worked by hand from the rules.
+
+#![tactic(auto)]
+
 #[cfg(test)]
 mod bits_tests;
 #[cfg(test)]

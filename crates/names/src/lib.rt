@@ -1,4 +1,7 @@
 //! How the line of a gate begins: the name of its kind, a space and `q`.
+
+#![tactic(auto)]
+
 ghost use Rattle.std.specs.Prelude.{◌≡◌, ℕ, List, ◌++◌, codes, MatchOption};
 ghost use Rattle.rows.specs.declared.kind.Kind.{Kind};
 ghost use Rattle.rows.specs.Kinds.{name};

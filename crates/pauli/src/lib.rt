@@ -1,4 +1,7 @@
 //! Pauli: a product of Pauli operators, one letter a wire, and its sign. A gate U takes the product P to U P U†.
+
+#![tactic(auto)]
+
 ghost use Rattle.std.specs.Prelude.{◌≡◌, min, false};
 ghost use Rattle.rows.specs.declared.kind.Kind.{Kind};
 ghost use Rattle.machine.specs.Local.{Cells, local};

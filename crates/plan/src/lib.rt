@@ -1,4 +1,7 @@
 //! A laid plan: a chip, the first places of the qubits, and the circuit.
+
+#![tactic(auto)]
+
 mod ability;
 mod circuit;
 mod operation;

@@ -1,4 +1,7 @@
 //! The report on a circuit's text: what the program `circuit` prints.
+
+#![tactic(auto)]
+
 mod count;
 mod feature;
 mod print;

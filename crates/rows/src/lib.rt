@@ -1,4 +1,7 @@
 //! The words that all crates share: gate kinds, qubits and wires, gate and step rows, refusals, and trading two entries.
+
+#![tactic(auto)]
+
 mod kind;
 mod place;
 mod refusal;

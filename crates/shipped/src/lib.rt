@@ -1,4 +1,7 @@
 //! The chips that the programs have with them, by their names.
+
+#![tactic(auto)]
+
 mod named;
 mod tables;
 

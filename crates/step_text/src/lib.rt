@@ -1,4 +1,7 @@
 //! Steps as text: the line of a step, read and written, and the line of a refusal.
+
+#![tactic(auto)]
+
 mod kind;
 mod name;
 mod number;

@@ -1,4 +1,7 @@
 //! Reads a circuit's text into gate rows.
+
+#![tactic(auto)]
+
 mod circuit;
 mod cutting;
 mod lexer;

@@ -1,4 +1,7 @@
 //! Tests of the reading of circuit texts, worked from the rules of the format.
+
+#![tactic(auto)]
+
 #[cfg(test)]
 mod accepted;
 #[cfg(test)]
