@@ -17,5 +17,5 @@ pub returns : goal.returns
 returns c =
     let after : pauli_means c.gate.new.self ≡ (local pauli_rule).gated (one Kind.S 0 0) (made_of letter_of 2 (3 ∷ []) false) =
     c.gate.ensures ∙ ap ((local pauli_rule).gated (one Kind.S 0 0)) c.new-p.ensures.made in
-    (λ i. record { letters = c.read.ensures i ∷ c.read-2.ensures i ∷ []; minus = c.is-minus.ensures i })
+    (λ i. record { letters = c.read.ensures i ∷ c.read-2.ensures i ∷ []; minus = c.is_minus.ensures i })
     ∙ ap (λ (u : Cells Letter). the_product u) after

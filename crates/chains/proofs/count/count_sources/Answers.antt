@@ -8,6 +8,6 @@ pub returns : goal.returns
 returns c gs q s few =
     let n = c.args.n in
     let all : c.min.result ≡ n = omega (arith, c.min.ensures) in
-    counts_same (λ j. In j c.args.set) (Source n gs q) n c.count-wires.result
+    counts_same (λ j. In j c.args.set) (Source n gs q) n c.count_wires.result
     (λ j h. (s.holds j).0 h) (λ j h. (s.holds j).1 h)
-    (subst (λ k. Counts (λ j. In j c.args.set) k c.count-wires.result) all c.count-wires.ensures)
+    (subst (λ k. Counts (λ j. In j c.args.set) k c.count_wires.result) all c.count_wires.ensures)

@@ -7,7 +7,7 @@ use Rattle.check_text.proofs.print.add_answers.Goals as goal
 
 pub loop-trial-preserved : goal.loop-trial-preserved
 loop-trial-preserved c =
-    line_more trial_line c.args.trials.now c.loop-trial.trial-index _ _ _ _ c.loop-trial-test.true c.loop-trial.invariant c.in-ok-add-answer.ensures
+    line_more trial_line c.args.trials.now c.loop-trial.trial-index _ _ _ _ c.loop-trial-test.true c.loop-trial.invariant c.in_ok-add_answer.ensures
 
 pub returns : goal.returns
 returns c =

@@ -4,7 +4,7 @@ use Rattle.check_text.proofs.whole.first_places.Goals as goal
 
 pub loop-q-preserved : goal.loop-q-preserved
 loop-q-preserved c =
-    c.in-ok-push.ensures.items ∙ ap (λ l. l ++ record { 0 = c.loop-q.q } ∷ []) c.loop-q.invariant ∙ ap in_order (sym (add-one c.loop-q.q))
+    c.in_ok-push.ensures.items ∙ ap (λ l. l ++ record { 0 = c.loop-q.q } ∷ []) c.loop-q.invariant ∙ ap in_order (sym (add-one c.loop-q.q))
 
 pub returns : goal.returns
 returns c =

@@ -4,15 +4,15 @@ use Rattle.check_text.specs.Stepping.{ReadsSteps, ReadAs}
 use Rattle.check_text.proofs.Judging.{all_offered}
 use Rattle.check_text.proofs.whole.judge.Goals as goal
 
-pub returns-in-ok-out : goal.returns-in-ok-out
-returns-in-ok-out c l h =
-    let s = subst (ReadsSteps c.args.input.now) c.in-Read.is c.in-ok-trials.ensures in
+pub returns-in_ok-out : goal.returns-in_ok-out
+returns-in_ok-out c l h =
+    let s = subst (ReadsSteps c.args.input.now) c.in-Read.is c.in_ok-trials.ensures in
     let long : length c.audit-cleared.new.trials ≡ c.in-Read.trials.len = omega arith in
-    all_offered c.args.book c.audit-cleared.new.book _ _ s.0 c.deref-mut.result.now c.audit-cleared.new.trials c.deref.result.now c.audit-cleared.result
-    s.1 (subst (ReadAs s.0) (sym c.deref-mut.ensures.value) s.2) c.audit-cleared.ensures.plays c.audit-cleared.ensures.clears
-    (c.deref.ensures.value ∙ take_at _ _ _ long) c.in-ok-out.ensures l h
+    all_offered c.args.book c.audit-cleared.new.book _ _ s.0 c.deref_mut.result.now c.audit-cleared.new.trials c.deref.result.now c.audit-cleared.result
+    s.1 (subst (ReadAs s.0) (sym c.deref_mut.ensures.value) s.2) c.audit-cleared.ensures.plays c.audit-cleared.ensures.clears
+    (c.deref.ensures.value ∙ take_at _ _ _ long) c.in_ok-out.ensures l h
 
 pub returns-in-Unreadable : goal.returns-in-Unreadable
 returns-in-Unreadable c l h =
-    let s = subst (ReadsSteps c.args.input.now) c.in-Unreadable.is c.in-ok-trials.ensures in
+    let s = subst (ReadsSteps c.args.input.now) c.in-Unreadable.is c.in_ok-trials.ensures in
     record { statements = s.0; found = s.1; unreadable = s.2 }

@@ -5,8 +5,8 @@ use Rattle.chip.proofs.reach.reach_from.Goals as goal
 pub round-requires : goal.round-requires
 round-requires c = record { level = omega (arith, size_le c.loop-d.reach.found c.loop-d.invariant.2) }
 
-pub overflow-add-d : goal.overflow-add-d
-overflow-add-d c = omega (arith, size_le c.loop-d.reach.found c.loop-d.invariant.2)
+pub overflow_add-d : goal.overflow_add-d
+overflow_add-d c = omega (arith, size_le c.loop-d.reach.found c.loop-d.invariant.2)
 
 pub loop-d-smaller : goal.loop-d-smaller
 loop-d-smaller c = omega (arith, size_le c.loop-d.reach.found c.loop-d.invariant.2)

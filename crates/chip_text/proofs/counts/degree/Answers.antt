@@ -4,8 +4,8 @@ use Rattle.chip_text.proofs.Steps.{count_le, count_yes, count_no}
 use Rattle.chip_text.proofs.counts.degree.Goals as goal
 use Rattle.chip_text.proofs.counts.degree.Goals.{then-coupled, else-coupled}
 
-pub overflow-add-count : goal.overflow-add-count
-overflow-add-count c = omega (arith, count_le ((chart_of c.args.chip.now).coupled c.args.a) c.loop-b.b)
+pub overflow_add-count : goal.overflow_add-count
+overflow_add-count c = omega (arith, count_le ((chart_of c.args.chip.now).coupled c.args.a) c.loop-b.b)
 
 pub loop-b-preserved : goal.loop-b-preserved
 loop-b-preserved c = elim c.if-coupled.branch [

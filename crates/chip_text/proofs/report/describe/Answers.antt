@@ -7,9 +7,9 @@ use Rattle.chip_text.proofs.report.describe.Goals as goal
 pub returns : goal.returns
 returns c far h =
     let k = chart_of c.args.chip.now in
-    text_of (string_bytes c.new-out.result) (string_bytes c.wires-line.new.out) (string_bytes c.couplings.new.out) (string_bytes c.durations.new.out)
-    (string_bytes c.distances.new.out) (string_bytes c.diameter-line.new.out) (string_bytes c.degrees.new.out)
+    text_of (string_bytes c.new-out.result) (string_bytes c.wires_line.new.out) (string_bytes c.couplings.new.out) (string_bytes c.durations.new.out)
+    (string_bytes c.distances.new.out) (string_bytes c.diameter_line.new.out) (string_bytes c.degrees.new.out)
     (wires_line k.wires) (couplings k) (durations k) (distances k.wires far) (diameter_line (diameter k.wires far)) (degrees k)
     c.new-out.ensures.bytes
-    (c.in-ok-wires-line.ensures ∙ ap (λ (n : ℕ). string_bytes c.new-out.result ++ wires_line n) c.wires.ensures.count) c.in-ok-couplings.ensures c.in-ok-durations.ensures (c.in-ok-distances.ensures far h)
-    (c.in-ok-diameter-line.ensures ∙ ap (λ (d : ℕ). string_bytes c.distances.new.out ++ diameter_line d) (c.diameter.ensures far h)) c.in-ok-degrees.ensures
+    (c.in_ok-wires_line.ensures ∙ ap (λ (n : ℕ). string_bytes c.new-out.result ++ wires_line n) c.wires.ensures.count) c.in_ok-couplings.ensures c.in_ok-durations.ensures (c.in_ok-distances.ensures far h)
+    (c.in_ok-diameter_line.ensures ∙ ap (λ (d : ℕ). string_bytes c.distances.new.out ++ diameter_line d) (c.diameter.ensures far h)) c.in_ok-degrees.ensures

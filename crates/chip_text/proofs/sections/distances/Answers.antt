@@ -7,7 +7,7 @@ use Rattle.chip_text.proofs.sections.distances.Goals as goal
 pub loop-a-preserved : goal.loop-a-preserved
 loop-a-preserved c far h =
     each_more (distance_line (chart_of c.args.chip.now).wires far) c.loop-a.a (string_bytes c.args.out.now) (string_bytes c.loop-a.out) _ (c.loop-a.invariant far h)
-    (c.in-ok-distances-line.ensures far h)
+    (c.in_ok-distances_line.ensures far h)
 
 pub returns : goal.returns
 returns c far h =

@@ -7,7 +7,7 @@ use Rattle.chip_text.proofs.sections.distances_from.Goals as goal
 pub loop-b-preserved : goal.loop-b-preserved
 loop-b-preserved c far h =
     each_more (λ b. codes " " ++ decimal (far c.args.a b)) c.loop-b.b (string_bytes c.args.out.now) (string_bytes c.loop-b.out) _ (c.loop-b.invariant far h)
-    (c.in-ok-number.ensures ∙ ap (λ (d : ℕ). string_bytes c.loop-b.out ++ (codes " " ++ decimal d)) (c.distance.ensures far h (c.requires, omega arith)))
+    (c.in_ok-number.ensures ∙ ap (λ (d : ℕ). string_bytes c.loop-b.out ++ (codes " " ++ decimal d)) (c.distance.ensures far h (c.requires, omega arith)))
 
 pub returns : goal.returns
 returns c far h =

@@ -6,6 +6,6 @@ use Rattle.chip_text.proofs.sections.distances_line.Goals as goal
 
 pub returns : goal.returns
 returns c far h =
-    line_of (string_bytes c.args.out.now) (string_bytes c.text.new.out) (string_bytes c.distances-from.new.out) _
+    line_of (string_bytes c.args.out.now) (string_bytes c.text.new.out) (string_bytes c.distances_from.new.out) _
     (codes "distances") (each (chart_of c.args.chip.now).wires (λ b. codes " " ++ decimal (far c.args.a b))) (codes "\n")
-    c.in-ok-text.ensures (c.in-ok-distances-from.ensures far h) c.in-ok-text-2.ensures
+    c.in_ok-text.ensures (c.in_ok-distances_from.ensures far h) c.in_ok-text-2.ensures

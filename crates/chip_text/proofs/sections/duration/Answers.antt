@@ -5,6 +5,6 @@ use Rattle.chip_text.proofs.sections.duration.Goals as goal
 
 pub returns-in-None : goal.returns-in-None
 returns-in-None c =
-    subst (λ (xs : List ℕ). IfOk c.duration-line-in-None.result (λ _. string_bytes c.duration-line-in-None.new.out ≡ string_bytes c.args.out.now ++ xs))
-    (exchange_line c.args.code c.exchange-duration.result (chart_of c.args.chip.now).cycles c.requires.0 c.requires.1 (sym c.of.ensures ∙ c.in-None.is) c.exchange-duration.ensures.cycles)
-    c.duration-line-in-None.ensures
+    subst (λ (xs : List ℕ). IfOk c.duration_line-in-None.result (λ _. string_bytes c.duration_line-in-None.new.out ≡ string_bytes c.args.out.now ++ xs))
+    (exchange_line c.args.code c.exchange_duration.result (chart_of c.args.chip.now).cycles c.requires.0 c.requires.1 (sym c.of.ensures ∙ c.in-None.is) c.exchange_duration.ensures.cycles)
+    c.duration_line-in-None.ensures

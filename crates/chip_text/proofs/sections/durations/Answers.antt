@@ -7,4 +7,4 @@ use Rattle.chip_text.proofs.sections.durations.Goals as goal
 
 pub loop-i-preserved : goal.loop-i-preserved
 loop-i-preserved c = each_more (λ i. duration_line (kind_name (coded (i + 1))) ((chart_of c.args.chip.now).cycles (i + 1))) c.loop-i.i (string_bytes c.args.out.now)
-    (string_bytes c.loop-i.out) _ c.loop-i.invariant c.in-ok-duration.ensures
+    (string_bytes c.loop-i.out) _ c.loop-i.invariant c.in_ok-duration.ensures

@@ -2,5 +2,5 @@ use Rattle.lines.specs.Grammar.{gate_in}
 use Rattle.lines.proofs.Judging.{is_twice}
 use Rattle.lines.proofs.gate.apart.Goals as goal
 
-pub returns-then-is-doubled : goal.returns-then-is-doubled
-returns-then-is-doubled c = is_twice _ _ _ _ (gate_in c.args.gate) c.requires.writes c.requires.within c.if-is-doubled.ensures
+pub returns-then-is_doubled : goal.returns-then-is_doubled
+returns-then-is_doubled c = is_twice _ _ _ _ (gate_in c.args.gate) c.requires.writes c.requires.within c.if-is_doubled.ensures

@@ -3,4 +3,4 @@ use Rattle.lines.proofs.Judging.{is_off}
 use Rattle.lines.proofs.gate.within.Goals as goal
 
 pub returns : goal.returns
-returns c = is_off _ _ _ _ (gate_in c.args.gate) c.requires c.if-is-within.ensures
+returns c = is_off _ _ _ _ (gate_in c.args.gate) c.requires c.if-is_within.ensures

@@ -5,6 +5,6 @@ use Rattle.lines.proofs.heading.qubits_of.Goals as goal
 
 pub returns-else-n-ge1 : goal.returns-else-n-ge1
 returns-else-n-ge1 c n h =
-    let told = c.in-ok-n.ensures in
-    let same = same_number c.in-ok-n.n n told.0 (omega (arith, h.few)) (sym told.1 ∙ append_cancel_left (codes "qubits ") _ _ (sym c.in-ok-rest.ensures ∙ h.is)) in
+    let told = c.in_ok-n.ensures in
+    let same = same_number c.in_ok-n.n n told.0 (omega (arith, h.few)) (sym told.1 ∙ append_cancel_left (codes "qubits ") _ _ (sym c.in_ok-rest.ensures ∙ h.is)) in
     omega (arith, c.else-n-ge1.either, h.some, h.few)

@@ -3,8 +3,8 @@ use Rattle.std.proofs.lemmas.List.{nil_from_length}
 use Rattle.names.proofs.Peel.{first_and_rest, first_and_rest_of}
 use Rattle.lines.proofs.token.front.Goals as goal
 
-pub returns-in-default : goal.returns-in-default
-returns-in-default c = nil_from_length c.args.s.now (search rules)
+pub returns-in_default : goal.returns-in_default
+returns-in_default c = nil_from_length c.args.s.now (search rules)
 
 pub returns-then-first-eq35 : goal.returns-then-first-eq35
 returns-then-first-eq35 c =
@@ -12,4 +12,4 @@ returns-then-first-eq35 c =
 
 pub returns : goal.returns
 returns c =
-    (first_and_rest c.args.s.now (search rules), record { no_letter = c.in-default-longest-2.ensures; no_digit = c.in-default-longest.ensures; no_hash = c.if-first-eq35.false })
+    (first_and_rest c.args.s.now (search rules), record { no_letter = c.in_default-longest-2.ensures; no_digit = c.in_default-longest.ensures; no_hash = c.if-first-eq35.false })

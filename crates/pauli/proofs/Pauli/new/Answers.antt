@@ -7,7 +7,7 @@ use Rattle.pauli.proofs.Pauli.new.Goals as goal
 
 pub returns : goal.returns
 returns c = record {
-  made = c.fill-cells.ensures c.args.minus ∙ made_wide (λ _. letter_of) c.args.width c.new-width.result.n 64 c.args.numbers.now c.args.minus c.new-width.ensures refl;
+  made = c.fill_cells.ensures c.args.minus ∙ made_wide (λ _. letter_of) c.args.width c.new-width.result.n 64 c.args.numbers.now c.args.minus c.new-width.ensures refl;
   conjugates = conjugates;
-  true-cnot = pauli_true_cnot;
+  true_cnot = pauli_true_cnot;
 }

@@ -4,13 +4,13 @@ use Rattle.rows.specs.Steps.{gate_of}
 use Rattle.report.specs.Features.{marked}
 use Rattle.report.proofs.Counting.{decoded_count, counted_yes, counted_no}
 use Rattle.report.proofs.count.count.Goals as goal
-use Rattle.report.proofs.count.count.Goals.{then-is-marked, else-is-marked}
+use Rattle.report.proofs.count.count.Goals.{then-is_marked, else-is_marked}
 
 pub loop-row-preserved : goal.loop-row-preserved
 loop-row-preserved c =
-    elim c.if-is-marked.branch [
-      | then-is-marked w ↦ counted_yes c.args.feature c.args.qubits c.args.rows.now c.loop-row.row-index c.loop-row.n _ c.loop-row-test.true c.loop-row.invariant (sym c.is-marked.ensures ∙ w.if-is-marked.true) _ w.n-is
-      | else-is-marked w ↦ counted_no c.args.feature c.args.qubits c.args.rows.now c.loop-row.row-index c.loop-row.n _ c.loop-row-test.true c.loop-row.invariant (sym c.is-marked.ensures ∙ w.if-is-marked.false) _ w.n-is
+    elim c.if-is_marked.branch [
+      | then-is_marked w ↦ counted_yes c.args.feature c.args.qubits c.args.rows.now c.loop-row.row-index c.loop-row.n _ c.loop-row-test.true c.loop-row.invariant (sym c.is_marked.ensures ∙ w.if-is_marked.true) _ w.n-is
+      | else-is_marked w ↦ counted_no c.args.feature c.args.qubits c.args.rows.now c.loop-row.row-index c.loop-row.n _ c.loop-row-test.true c.loop-row.invariant (sym c.is_marked.ensures ∙ w.if-is_marked.false) _ w.n-is
     ]
 
 pub returns : goal.returns

@@ -9,13 +9,13 @@ use Rattle.report.proofs.print.add_counts.Goals as goal
 
 pub returns : goal.returns
 returns c gs d some few short = (
-  c.depth-of-deep.result,
-  c.depth-of-deep.ensures gs d some few short,
+  c.depth_of-deep.result,
+  c.depth_of-deep.ensures gs d some few short,
   five_parts (string_bytes c.args.out.now) _ _ _ _ _
-      (entry (codes "qubits") c.args.qubits) (entry (codes "gates") (length gs)) (flat_map (kind_line gs) kinds) (entry (codes "two-qubit") (counted Feature.OnTwo gs)) (entry (codes "depth") c.depth-of-deep.result)
-      c.in-ok-add-entry.ensures
-      (c.in-ok-add-entry-2.ensures ∙ ap (λ n. string_bytes c.add-entry.new.out ++ entry (codes "gates") n) (decoded_length c.args.qubits c.args.rows.now gs d))
-      (c.in-ok-add-kinds.ensures gs d ∙ ap (λ l. string_bytes c.add-entry-2.new.out ++ flat_map (kind_line gs) l) c.all-kinds.ensures)
-      (c.in-ok-add-entry-3.ensures ∙ ap (λ n. string_bytes c.add-kinds.new.out ++ entry (codes "two-qubit") n) (c.count.ensures gs d))
-      c.in-ok-add-entry-4.ensures,
+      (entry (codes "qubits") c.args.qubits) (entry (codes "gates") (length gs)) (flat_map (kind_line gs) kinds) (entry (codes "two-qubit") (counted Feature.OnTwo gs)) (entry (codes "depth") c.depth_of-deep.result)
+      c.in_ok-add_entry.ensures
+      (c.in_ok-add_entry-2.ensures ∙ ap (λ n. string_bytes c.add_entry.new.out ++ entry (codes "gates") n) (decoded_length c.args.qubits c.args.rows.now gs d))
+      (c.in_ok-add_kinds.ensures gs d ∙ ap (λ l. string_bytes c.add_entry-2.new.out ++ flat_map (kind_line gs) l) c.all_kinds.ensures)
+      (c.in_ok-add_entry-3.ensures ∙ ap (λ n. string_bytes c.add_kinds.new.out ++ entry (codes "two-qubit") n) (c.count.ensures gs d))
+      c.in_ok-add_entry-4.ensures,
 )

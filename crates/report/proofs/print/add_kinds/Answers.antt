@@ -9,7 +9,7 @@ use Rattle.report.proofs.print.add_kinds.Goals as goal
 pub loop-kind-preserved : goal.loop-kind-preserved
 loop-kind-preserved c gs d =
     line_more (kind_line gs) c.args.wanted.now c.loop-kind.kind-index Kind.X _ _ _ c.loop-kind-test.true (c.loop-kind.invariant gs d)
-    (c.in-ok-add-entry.ensures ∙ (λ i. string_bytes c.loop-kind.out ++ entry (c.name.ensures i) (c.count-n.ensures gs d i)))
+    (c.in_ok-add_entry.ensures ∙ (λ i. string_bytes c.loop-kind.out ++ entry (c.name.ensures i) (c.count-n.ensures gs d i)))
 
 pub returns : goal.returns
 returns c gs d =

@@ -3,5 +3,5 @@ use Rattle.report.proofs.print.show_refusal.Goals as goal
 
 pub returns : goal.returns
 returns c =
-    c.in-ok-line.ensures.ok
+    c.in_ok-line.ensures.ok
     ∙ ap (λ n. codes "refused " ++ (decimal n ++ (codes " " ++ (decimal c.args.fault.place ++ codes "\n")))) c.number-number.ensures

@@ -5,4 +5,4 @@ use Rattle.report.proofs.whole.report.Goals as goal
 
 pub returns-then-text-gt-LIMIT : goal.returns-then-text-gt-LIMIT
 returns-then-text-gt-LIMIT c =
-    made_so c.from-str.result _ _ (λ s e. reports_same c.args.text.now _ (string_bytes s) (too_long c.if-text-gt-LIMIT.true) e) c.from-str.ensures.ok
+    made_so c.from_str.result _ _ (λ s e. reports_same c.args.text.now _ (string_bytes s) (too_long c.if-text-gt-LIMIT.true) e) c.from_str.ensures.ok

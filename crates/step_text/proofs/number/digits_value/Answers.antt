@@ -6,8 +6,8 @@ use Rattle.lines.specs.Number.{Digit}
 use Rattle.step_text.proofs.Decimal.{value_front, value_step}
 use Rattle.step_text.proofs.number.digits_value.Goals as goal
 
-pub overflow-sub-v : goal.overflow-sub-v
-overflow-sub-v c = omega (arith, All-get_or Digit c.args.digits.now c.loop-b.b-index 0 c.loop-b-test.true c.requires)
+pub overflow_sub-v : goal.overflow_sub-v
+overflow_sub-v c = omega (arith, All-get_or Digit c.args.digits.now c.loop-b.b-index 0 c.loop-b-test.true c.requires)
 
 pub returns-then-v-limit : goal.returns-then-v-limit
 returns-then-v-limit c =

@@ -5,8 +5,8 @@ use Rattle.step_text.proofs.print.add_line.Goals as goal
 
 pub returns : goal.returns
 returns c =
-    made_after c.push-str-2.result _ _ _ _ c.push-str-2.ensures.bytes
-    (line_printed c.args.step (step_code c.args.kind) c.name-name.result.now c.is-double.result c.has-k.result (string_bytes c.args.out.now) _ _ _ _
-    c.requires c.name-name.ensures c.is-double.ensures c.has-k.ensures
-    (c.in-ok-push-str.ensures.bytes ∙ ap (λ (l : List ℕ). string_bytes c.args.out.now ++ l) (c.as-str.ensures.value ∙ c.in-ok-front.ensures.ok))
-    c.in-ok-add-part.ensures c.in-ok-add-part-2.ensures)
+    made_after c.push_str-2.result _ _ _ _ c.push_str-2.ensures.bytes
+    (line_printed c.args.step (step_code c.args.kind) c.name-name.result.now c.is_double.result c.has_k.result (string_bytes c.args.out.now) _ _ _ _
+    c.requires c.name-name.ensures c.is_double.ensures c.has_k.ensures
+    (c.in_ok-push_str.ensures.bytes ∙ ap (λ (l : List ℕ). string_bytes c.args.out.now ++ l) (c.as_str.ensures.value ∙ c.in_ok-front.ensures.ok))
+    c.in_ok-add_part.ensures c.in_ok-add_part-2.ensures)

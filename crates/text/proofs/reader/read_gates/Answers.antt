@@ -4,13 +4,13 @@ use Rattle.text.proofs.reader.read_gates.Goals as goal
 
 pub bounds-table-count : goal.bounds-table-count
 bounds-table-count c =
-    let some : ¬ (c.args.room - c.loop-word.count ≡ 0) = row_left c.args.qubits _ (record { number = c.in-Some.word.line; bytes = c.in-Some.word.bytes.now }) c.in-ok-table.ensures.0 in
+    let some : ¬ (c.args.room - c.loop-word.count ≡ 0) = row_left c.args.qubits _ (record { number = c.in-Some.word.line; bytes = c.in-Some.word.bytes.now }) c.in_ok-table.ensures.0 in
     omega (arith, c.requires)
 
 pub loop-word-preserved : goal.loop-word-preserved
 loop-word-preserved c =
-    let row = c.in-ok-table.ensures in
-    reached_more c.args.qubits c.args.room _ _ _ _ c.loop-word.count c.args.table.now c.loop-word.table c.in-Some.ensures.statement c.loop-word.invariant row.1.0 c.in-ok-table.field-0 row.0 row.1.1 row.1.2 c.requires
+    let row = c.in_ok-table.ensures in
+    reached_more c.args.qubits c.args.room _ _ _ _ c.loop-word.count c.args.table.now c.loop-word.table c.in-Some.ensures.statement c.loop-word.invariant row.1.0 c.in_ok-table.field-0 row.0 row.1.1 row.1.2 c.requires
 
 pub returns : goal.returns
-returns c = all_filled _ _ _ _ _ _ _ c.loop-word.invariant c.in-default.ensures.statement.0
+returns c = all_filled _ _ _ _ _ _ _ c.loop-word.invariant c.in_default.ensures.statement.0

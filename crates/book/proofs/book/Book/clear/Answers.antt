@@ -11,4 +11,4 @@ returns-in-Some c l h = turned_open (plan_in c.args.self.now.plan) l c.in-Some.i
 pub returns : goal.returns
 returns c l h =
     let n = c.count.ensures.count ∙ ap (λ (x : Circuit). length (gates_in x)) c.circuit.ensures in
-    clear_counts c.args.self.now l h _ (c.in-default.ensures l h) n refl refl refl
+    clear_counts c.args.self.now l h _ (c.in_default.ensures l h) n refl refl refl

@@ -6,8 +6,8 @@ use Rattle.plan.specs.Laying.{plan_in}
 use Rattle.book.proofs.Facts.{fresh_agrees}
 use Rattle.book.proofs.book.Book.fresh.Goals as goal
 
-pub invariant-of-result : goal.invariant-of-result
-invariant-of-result c =
+pub invariant_of-result : goal.invariant_of-result
+invariant_of-result c =
     let e = c.fresh-log.ensures in
     let same : c.fresh-log.result.places ≡ c.args.plan.first = e.places ∙ c.first.ensures in (
       ap (λ (s : Places). s.wires) same,

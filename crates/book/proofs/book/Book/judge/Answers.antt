@@ -20,51 +20,51 @@ use Rattle.book.proofs.book.Book.judge.Goals as goal
 decoded : (b : Book) (x : Chip) (w : ℕ) (r : StepRow) (o : Option Step) → x ≡ b.plan.chip → w ≡ (chart_of x).wires → o ≡ step_of w r → step_of (plan_in b.plan).chart.wires r ≡ o
 decoded b x w r o e f d = ap (λ (n : ℕ). step_of n r) (sym (f ∙ ap (λ (y : Chip). (chart_of y).wires) e)) ∙ sym d
 
-pub returns-in-default : goal.returns-in-default
-returns-in-default c l h =
-    turned_shape c.refuse.result _ c.refuse.ensures h.kept (decoded c.args.self.now _ _ c.args.step None c.chip.ensures c.wires.ensures.count c.in-default.ensures)
+pub returns-in_default : goal.returns-in_default
+returns-in_default c l h =
+    turned_shape c.refuse.result _ c.refuse.ensures h.kept (decoded c.args.self.now _ _ c.args.step None c.chip.ensures c.wires.ensures.count c.in_default.ensures)
 
-pub returns-then-not-is-joined : goal.returns-then-not-is-joined
-returns-then-not-is-joined c l h =
+pub returns-then-not-is_joined : goal.returns-then-not-is_joined
+returns-then-not-is_joined c l h =
     let t = step_at c.in-Some.action in
     let d = decoded c.args.self.now _ _ c.args.step (Some t) c.chip.ensures c.wires.ensures.count c.in-Some.ensures in
-    turned_step t d Refusal.Uncoupled (lit≤ tt) _ _ c.refuse-then-not-is-joined.ensures h.kept (uncoupled t d (sym c.if-not-is-joined.ensures))
+    turned_step t d Refusal.Uncoupled (lit≤ tt) _ _ c.refuse-then-not-is_joined.ensures h.kept (uncoupled t d (sym c.if-not-is_joined.ensures))
     (λ k. absurd (omega arith)) (λ k. absurd (omega arith)) (λ k. absurd (omega arith)) (λ k. absurd (omega arith))
 
-pub free-from-requires : goal.free-from-requires
-free-from-requires c =
+pub free_from-requires : goal.free_from-requires
+free_from-requires c =
     let t = step_at c.in-Some.action in
     let g = step_of_good c.wires.result c.args.step t (sym c.in-Some.ensures) in
     let x = first_below c.wires.result t g in
     let y = second_below c.wires.result t g in
-    record { wires = (omega (arith, c.wires.ensures.range.1, c.wires-of.ensures.0), omega (arith, c.wires.ensures.range.1, c.wires-of.ensures.1)) }
+    record { wires = (omega (arith, c.wires.ensures.range.1, c.wires_of.ensures.0), omega (arith, c.wires.ensures.range.1, c.wires_of.ensures.1)) }
 
-pub returns-then-step-free-from : goal.returns-then-step-free-from
-returns-then-step-free-from c l h =
+pub returns-then-step-free_from : goal.returns-then-step-free_from
+returns-then-step-free_from c l h =
     let b = c.args.self.now in
     let t = step_at c.in-Some.action in
     let d = decoded b _ _ c.args.step (Some t) c.chip.ensures c.wires.ensures.count c.in-Some.ensures in
-    let f = free_larger b l h t (step_of_good _ c.args.step t d) _ _ _ c.wires-of.ensures.0 c.wires-of.ensures.1 c.free-from.ensures in
-    turned_step t d Refusal.Busy (lit≤ tt) _ _ c.refuse-then-step-free-from.ensures h.kept (busy t d (omega (arith, f, c.if-step-free-from.true)))
-    (λ k. sym c.if-not-is-joined.ensures) (λ k. absurd (omega arith)) (λ k. absurd (omega arith)) (λ k. absurd (omega arith))
+    let f = free_larger b l h t (step_of_good _ c.args.step t d) _ _ _ c.wires_of.ensures.0 c.wires_of.ensures.1 c.free_from.ensures in
+    turned_step t d Refusal.Busy (lit≤ tt) _ _ c.refuse-then-step-free_from.ensures h.kept (busy t d (omega (arith, f, c.if-step-free_from.true)))
+    (λ k. sym c.if-not-is_joined.ensures) (λ k. absurd (omega arith)) (λ k. absurd (omega arith)) (λ k. absurd (omega arith))
 
-pub returns-in-default-checked-add : goal.returns-in-default-checked-add
-returns-in-default-checked-add c l h =
+pub returns-in_default-checked_add : goal.returns-in_default-checked_add
+returns-in_default-checked_add c l h =
     let b = c.args.self.now in
     let t = step_at c.in-Some.action in
     let d = decoded b _ _ c.args.step (Some t) c.chip.ensures c.wires.ensures.count c.in-Some.ensures in
-    let f = free_larger b l h t (step_of_good _ c.args.step t d) _ _ _ c.wires-of.ensures.0 c.wires-of.ensures.1 c.free-from.ensures in
-    turned_step t d Refusal.Late (lit≤ tt) _ _ c.refuse-in-default-checked-add.ensures h.kept (late t d (omega (arith, c.cycles.ensures, c.in-default-checked-add.ensures)))
-    (λ k. sym c.if-not-is-joined.ensures) (λ k. omega (arith, f, c.if-step-free-from.false)) (λ k. absurd (omega arith)) (λ k. absurd (omega arith))
+    let f = free_larger b l h t (step_of_good _ c.args.step t d) _ _ _ c.wires_of.ensures.0 c.wires_of.ensures.1 c.free_from.ensures in
+    turned_step t d Refusal.Late (lit≤ tt) _ _ c.refuse-in_default-checked_add.ensures h.kept (late t d (omega (arith, c.cycles.ensures, c.in_default-checked_add.ensures)))
+    (λ k. sym c.if-not-is_joined.ensures) (λ k. omega (arith, f, c.if-step-free_from.false)) (λ k. absurd (omega arith)) (λ k. absurd (omega arith))
 
-pub returns-in-default-turn : goal.returns-in-default-turn
-returns-in-default-turn c l h =
+pub returns-in_default-turn : goal.returns-in_default-turn
+returns-in_default-turn c l h =
     let b = c.args.self.now in
     let t = step_at c.in-Some.action in
     let d = decoded b _ _ c.args.step (Some t) c.chip.ensures c.wires.ensures.count c.in-Some.ensures in
-    let f = free_larger b l h t (step_of_good _ c.args.step t d) _ _ _ c.wires-of.ensures.0 c.wires-of.ensures.1 c.free-from.ensures in
-    turned_step t d Refusal.NotNext (lit≤ tt) _ _ c.refuse-in-default-turn.ensures h.kept (not_next t d (c.in-default-turn.ensures l h))
-    (λ k. sym c.if-not-is-joined.ensures) (λ k. omega (arith, f, c.if-step-free-from.false)) (λ k. omega (arith, c.cycles.ensures, c.in-Some-checked-add.ensures)) (λ k. absurd (omega arith))
+    let f = free_larger b l h t (step_of_good _ c.args.step t d) _ _ _ c.wires_of.ensures.0 c.wires_of.ensures.1 c.free_from.ensures in
+    turned_step t d Refusal.NotNext (lit≤ tt) _ _ c.refuse-in_default-turn.ensures h.kept (not_next t d (c.in_default-turn.ensures l h))
+    (λ k. sym c.if-not-is_joined.ensures) (λ k. omega (arith, f, c.if-step-free_from.false)) (λ k. omega (arith, c.cycles.ensures, c.in-Some-checked_add.ensures)) (λ k. absurd (omega arith))
 
 -- a step with a turn meets order
 ordered : (p : Plan) (l : SheetLog) (t : Step) (u : Turn) → Takes p l t u → Ordered p l t
@@ -76,9 +76,9 @@ returns-then-self-ge262144 c l h =
     let b = c.args.self.now in
     let t = step_at c.in-Some.action in
     let d = decoded b _ _ c.args.step (Some t) c.chip.ensures c.wires.ensures.count c.in-Some.ensures in
-    let f = free_larger b l h t (step_of_good _ c.args.step t d) _ _ _ c.wires-of.ensures.0 c.wires-of.ensures.1 c.free-from.ensures in
+    let f = free_larger b l h t (step_of_good _ c.args.step t d) _ _ _ c.wires_of.ensures.0 c.wires_of.ensures.1 c.free_from.ensures in
     turned_step t d Refusal.Full (lit≤ tt) _ _ c.refuse-then-self-ge262144.ensures h.kept (full (omega (arith, h.kept, c.if-self-ge262144.true)))
-    (λ k. sym c.if-not-is-joined.ensures) (λ k. omega (arith, f, c.if-step-free-from.false)) (λ k. omega (arith, c.cycles.ensures, c.in-Some-checked-add.ensures))
+    (λ k. sym c.if-not-is_joined.ensures) (λ k. omega (arith, f, c.if-step-free_from.false)) (λ k. omega (arith, c.cycles.ensures, c.in-Some-checked_add.ensures))
     (λ k. ordered _ l t c.in-Some-turn.turn (c.in-Some-turn.ensures l h))
 
 pub returns : goal.returns
@@ -86,11 +86,11 @@ returns c l h =
     let b = c.args.self.now in
     let t = step_at c.in-Some.action in
     let d = decoded b _ _ c.args.step (Some t) c.chip.ensures c.wires.ensures.count c.in-Some.ensures in
-    let f = free_larger b l h t (step_of_good _ c.args.step t d) _ _ _ c.wires-of.ensures.0 c.wires-of.ensures.1 c.free-from.ensures in
+    let f = free_larger b l h t (step_of_good _ c.args.step t d) _ _ _ c.wires_of.ensures.0 c.wires_of.ensures.1 c.free_from.ensures in
     record {
-      accepted = step_accepted (plan_in b.plan) l c.args.step t d (sym c.if-not-is-joined.ensures) (omega (arith, f, c.if-step-free-from.false))
-          (omega (arith, c.cycles.ensures, c.in-Some-checked-add.ensures)) (ordered _ l t c.in-Some-turn.turn (c.in-Some-turn.ensures l h)) (omega (arith, h.kept, c.if-self-ge262144.false));
+      accepted = step_accepted (plan_in b.plan) l c.args.step t d (sym c.if-not-is_joined.ensures) (omega (arith, f, c.if-step-free_from.false))
+          (omega (arith, c.cycles.ensures, c.in-Some-checked_add.ensures)) (ordered _ l t c.in-Some-turn.turn (c.in-Some-turn.ensures l h)) (omega (arith, h.kept, c.if-self-ge262144.false));
       decoded = d;
-      ends = omega (arith, c.cycles.ensures, c.in-Some-checked-add.ensures);
+      ends = omega (arith, c.cycles.ensures, c.in-Some-checked_add.ensures);
       takes = c.in-Some-turn.ensures l h;
     }

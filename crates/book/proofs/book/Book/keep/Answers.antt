@@ -14,21 +14,21 @@ ok_not_err a f e = let z : ◌≡◌ {A = ℕ} 0 1 = cc in omega arith
 pub lock-requires : goal.lock-requires
 lock-requires c =
     let b = c.args.self.now in
-    let v = c.in-ok-verdict.verdict in
+    let v = c.in_ok-verdict.verdict in
     record {
       wires = (
-        by_sheet b (suc c.wires-of.result.0.0) 64 (λ l h. let a = c.in-ok-verdict.ensures.judges l h in
-            omega (arith, first_in b l h c.args.step v a, few_wires b l h c.args.step v a, c.wires-of.ensures.0)),
-        by_sheet b (suc c.wires-of.result.1.0) 64 (λ l h. let a = c.in-ok-verdict.ensures.judges l h in
-            omega (arith, second_in b l h c.args.step v a, few_wires b l h c.args.step v a, c.wires-of.ensures.1)),
+        by_sheet b (suc c.wires_of.result.0.0) 64 (λ l h. let a = c.in_ok-verdict.ensures.judges l h in
+            omega (arith, first_in b l h c.args.step v a, few_wires b l h c.args.step v a, c.wires_of.ensures.0)),
+        by_sheet b (suc c.wires_of.result.1.0) 64 (λ l h. let a = c.in_ok-verdict.ensures.judges l h in
+            omega (arith, second_in b l h c.args.step v a, few_wires b l h c.args.step v a, c.wires_of.ensures.1)),
       );
-      room = by_sheet b (suc b.log.kept) 262144 (λ l h. room_left b l h c.args.step v (c.in-ok-verdict.ensures.judges l h));
+      room = by_sheet b (suc b.log.kept) 262144 (λ l h. room_left b l h c.args.step v (c.in_ok-verdict.ensures.judges l h));
     }
 
 pub mark-requires : goal.mark-requires
 mark-requires c =
     let b = c.args.self.now in
-    record { gate = by_sheet b (suc c.in-Gate.i) 1024 (λ l h. gate_in b l h c.args.step c.in-ok-verdict.verdict (c.in-ok-verdict.ensures.judges l h) c.in-Gate.i c.in-Gate.is) }
+    record { gate = by_sheet b (suc c.in-Gate.i) 1024 (λ l h. gate_in b l h c.args.step c.in_ok-verdict.verdict (c.in_ok-verdict.ensures.judges l h) c.in-Gate.i c.in-Gate.is) }
 
 pub trade-requires : goal.trade-requires
 trade-requires c =
@@ -38,15 +38,15 @@ trade-requires c =
     record {
       wires = (
         by_sheet b (suc c.in-Exchange.a.0) c.lock.new.self.places.wires (λ l h.
-            omega (arith, w, (wires_in b l h c.args.step c.in-ok-verdict.verdict (c.in-ok-verdict.ensures.judges l h) c.in-Exchange.a c.in-Exchange.b c.in-Exchange.is).0)),
+            omega (arith, w, (wires_in b l h c.args.step c.in_ok-verdict.verdict (c.in_ok-verdict.ensures.judges l h) c.in-Exchange.a c.in-Exchange.b c.in-Exchange.is).0)),
         by_sheet b (suc c.in-Exchange.b.0) c.lock.new.self.places.wires (λ l h.
-            omega (arith, w, (wires_in b l h c.args.step c.in-ok-verdict.verdict (c.in-ok-verdict.ensures.judges l h) c.in-Exchange.a c.in-Exchange.b c.in-Exchange.is).1)),
+            omega (arith, w, (wires_in b l h c.args.step c.in_ok-verdict.verdict (c.in_ok-verdict.ensures.judges l h) c.in-Exchange.a c.in-Exchange.b c.in-Exchange.is).1)),
       );
       room = omega (arith, e.counts.0, e.rest.2, b.log.some);
     }
 
-pub invariant-of-self : goal.invariant-of-self
-invariant-of-self c =
+pub invariant_of-self : goal.invariant_of-self
+invariant_of-self c =
     let b = c.args.self.now in
     let e = c.lock.ensures in
     let m = c.mark.ensures in
@@ -55,16 +55,16 @@ invariant-of-self c =
       (
         ap (λ (s : Places). s.qubits) same ∙ b.qubits,
         (
-          ∥∥₁_map b.agrees (λ x. let a = after_gate b x.0 x.1 c.args.step c.in-ok-verdict.verdict (c.in-ok-verdict.ensures.judges x.0 x.1)
-              c.mark.new.self c.in-Gate.i c.in-Gate.is _ _ c.wires-of.ensures.0 c.wires-of.ensures.1
+          ∥∥₁_map b.agrees (λ x. let a = after_gate b x.0 x.1 c.args.step c.in_ok-verdict.verdict (c.in_ok-verdict.ensures.judges x.0 x.1)
+              c.mark.new.self c.in-Gate.i c.in-Gate.is _ _ c.wires_of.ensures.0 c.wires_of.ensures.1
               (m.rest.1 ∙ e.free) (m.counts.0 ∙ e.counts.0) (m.counts.2 ∙ e.counts.1) (m.rest.0 ∙ e.rest.0) (m.done ∙ ap (λ ds. set ds c.in-Gate.i true) e.rest.1) (m.counts.1 ∙ e.rest.2) in (a.0, a.2)),
           tt,
         ),
       ),
     )
 
-pub invariant-of-self-in-Exchange : goal.invariant-of-self-in-Exchange
-invariant-of-self-in-Exchange c =
+pub invariant_of-self-in-Exchange : goal.invariant_of-self-in-Exchange
+invariant_of-self-in-Exchange c =
     let b = c.args.self.now in
     let e = c.lock.ensures in
     let m = c.trade.ensures in (
@@ -72,8 +72,8 @@ invariant-of-self-in-Exchange c =
       (
         m.size.qubits ∙ ap (λ (s : Places). s.qubits) e.rest.0 ∙ b.qubits,
         (
-          ∥∥₁_map b.agrees (λ x. let a = after_exchange b x.0 x.1 c.args.step c.in-ok-verdict.verdict (c.in-ok-verdict.ensures.judges x.0 x.1)
-              c.trade.new.self c.in-Exchange.a c.in-Exchange.b c.in-Exchange.is _ _ c.wires-of.ensures.0 c.wires-of.ensures.1
+          ∥∥₁_map b.agrees (λ x. let a = after_exchange b x.0 x.1 c.args.step c.in_ok-verdict.verdict (c.in_ok-verdict.ensures.judges x.0 x.1)
+              c.trade.new.self c.in-Exchange.a c.in-Exchange.b c.in-Exchange.is _ _ c.wires_of.ensures.0 c.wires_of.ensures.1
               (m.rest.1 ∙ e.free) (m.counts.0 ∙ e.counts.0) (m.counts.2 ∙ e.counts.1) (m.places ∙ ap (λ (s : Places). places_traded c.in-Exchange.a.0 c.in-Exchange.b.0 (places_of s)) e.rest.0) (m.rest.0 ∙ e.rest.1) (m.counts.1 ∙ ap (λ (n : ℕ). n + 1) e.rest.2) in (a.0, a.2)),
           tt,
         ),
@@ -87,11 +87,11 @@ returns-in-Gate c =
     let m = c.mark.ensures in
     record {
       plan = refl;
-      keeps = λ l h. let a = after_gate b l h c.args.step c.in-ok-verdict.verdict (c.in-ok-verdict.ensures.judges l h)
-          c.mark.new.self c.in-Gate.i c.in-Gate.is _ _ c.wires-of.ensures.0 c.wires-of.ensures.1
+      keeps = λ l h. let a = after_gate b l h c.args.step c.in_ok-verdict.verdict (c.in_ok-verdict.ensures.judges l h)
+          c.mark.new.self c.in-Gate.i c.in-Gate.is _ _ c.wires_of.ensures.0 c.wires_of.ensures.1
           (m.rest.1 ∙ e.free) (m.counts.0 ∙ e.counts.0) (m.counts.2 ∙ e.counts.1) (m.rest.0 ∙ e.rest.0) (m.done ∙ ap (λ ds. set ds c.in-Gate.i true) e.rest.1) (m.counts.1 ∙ e.rest.2) in
-          record { after = a.0; kept = a.1; decoded = (c.in-ok-verdict.ensures.judges l h).decoded; agrees = a.2 };
-      untouched = λ f x. absurd (ok_not_err c.in-ok-verdict.verdict.action f x);
+          record { after = a.0; kept = a.1; decoded = (c.in_ok-verdict.ensures.judges l h).decoded; agrees = a.2 };
+      untouched = λ f x. absurd (ok_not_err c.in_ok-verdict.verdict.action f x);
     }
 
 pub returns-in-Exchange : goal.returns-in-Exchange
@@ -101,9 +101,9 @@ returns-in-Exchange c =
     let m = c.trade.ensures in
     record {
       plan = refl;
-      keeps = λ l h. let a = after_exchange b l h c.args.step c.in-ok-verdict.verdict (c.in-ok-verdict.ensures.judges l h)
-          c.trade.new.self c.in-Exchange.a c.in-Exchange.b c.in-Exchange.is _ _ c.wires-of.ensures.0 c.wires-of.ensures.1
+      keeps = λ l h. let a = after_exchange b l h c.args.step c.in_ok-verdict.verdict (c.in_ok-verdict.ensures.judges l h)
+          c.trade.new.self c.in-Exchange.a c.in-Exchange.b c.in-Exchange.is _ _ c.wires_of.ensures.0 c.wires_of.ensures.1
           (m.rest.1 ∙ e.free) (m.counts.0 ∙ e.counts.0) (m.counts.2 ∙ e.counts.1) (m.places ∙ ap (λ (s : Places). places_traded c.in-Exchange.a.0 c.in-Exchange.b.0 (places_of s)) e.rest.0) (m.rest.0 ∙ e.rest.1) (m.counts.1 ∙ ap (λ (n : ℕ). n + 1) e.rest.2) in
-          record { after = a.0; kept = a.1; decoded = (c.in-ok-verdict.ensures.judges l h).decoded; agrees = a.2 };
-      untouched = λ f x. absurd (ok_not_err c.in-ok-verdict.verdict.action f x);
+          record { after = a.0; kept = a.1; decoded = (c.in_ok-verdict.ensures.judges l h).decoded; agrees = a.2 };
+      untouched = λ f x. absurd (ok_not_err c.in_ok-verdict.verdict.action f x);
     }

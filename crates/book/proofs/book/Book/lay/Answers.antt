@@ -9,8 +9,8 @@ use Rattle.book.proofs.book.Book.lay.Goals as goal
 
 pub returns : goal.returns
 returns c =
-    let x = c.in-ok-plan.ensures in
-    let laid : LaidPlan (plan_in c.in-ok-plan.plan) = record {
+    let x = c.in_ok-plan.ensures in
+    let laid : LaidPlan (plan_in c.in_ok-plan.plan) = record {
       wide = c.args.ability.now.width;
       knows = known c.args.ability.now.kinds;
       layout = layout c.args.wires c.args.records.now c.args.qubits c.args.places.now c.args.gates.now;
@@ -18,5 +18,5 @@ returns c =
       given = x.given;
     } in (
       subst (λ (p : Plan). LaysPlan c.args.ability.now c.args.wires c.args.records.now c.args.qubits c.args.places.now c.args.gates.now p) (sym c.fresh.ensures.plan) x,
-      subst (λ (p : Plan). Agrees (plan_in p) c.fresh.result.log (fresh (plan_in p))) (sym c.fresh.ensures.plan) (subst (λ (p : Plan). Agrees (plan_in p) c.fresh.result.log (fresh (plan_in c.in-ok-plan.plan))) c.fresh.ensures.plan (c.fresh.ensures.log laid)),
+      subst (λ (p : Plan). Agrees (plan_in p) c.fresh.result.log (fresh (plan_in p))) (sym c.fresh.ensures.plan) (subst (λ (p : Plan). Agrees (plan_in p) c.fresh.result.log (fresh (plan_in c.in_ok-plan.plan))) c.fresh.ensures.plan (c.fresh.ensures.log laid)),
     )

@@ -13,16 +13,16 @@ no_swap (Action.One κ k a) other x y e = let z : ◌≡◌ {A = ℕ} 0 1 = cc i
 no_swap (Action.Two κ k a b) other x y e = let z : ◌≡◌ {A = ℕ} 0 1 = cc in omega arith
 no_swap (Action.Exchange a b) other x y e = other a b (λ i. Action.Exchange a b)
 
-pub returns-in-err-gate : goal.returns-in-err-gate
-returns-in-err-gate c l h = rw c.from-residual.ensures
-    (turn_none c.args.self.now l h (step_at c.args.action) (no_swap c.args.action c.in-default.not-Exchange) c.in-err-gate.ensures)
+pub returns-in_err-gate : goal.returns-in_err-gate
+returns-in_err-gate c l h = rw c.from_residual.ensures
+    (turn_none c.args.self.now l h (step_at c.args.action) (no_swap c.args.action c.in_default.not-Exchange) c.in_err-gate.ensures)
 
-pub returns-in-err-i : goal.returns-in-err-i
-returns-in-err-i c l h = rw c.from-residual-in-err-i.ensures
-    (turn_not c.args.self.now l h (step_at c.args.action) c.in-ok-gate.gate c.in-ok-gate.ensures
-    (subst (λ (x : Circuit). (i : ℕ) → ¬ NextOf (gates_in x) c.args.self.now.log.done (gate_at c.in-ok-gate.gate) i) c.circuit.ensures c.in-err-i.ensures))
+pub returns-in_err-i : goal.returns-in_err-i
+returns-in_err-i c l h = rw c.from_residual-in_err-i.ensures
+    (turn_not c.args.self.now l h (step_at c.args.action) c.in_ok-gate.gate c.in_ok-gate.ensures
+    (subst (λ (x : Circuit). (i : ℕ) → ¬ NextOf (gates_in x) c.args.self.now.log.done (gate_at c.in_ok-gate.gate) i) c.circuit.ensures c.in_err-i.ensures))
 
 pub returns : goal.returns
 returns c l h =
-    turn_is c.args.self.now l h (step_at c.args.action) c.in-ok-gate.gate c.in-ok-i.i c.in-ok-gate.ensures
-    (subst (λ (x : Circuit). NextOf (gates_in x) c.args.self.now.log.done (gate_at c.in-ok-gate.gate) c.in-ok-i.i) c.circuit.ensures c.in-ok-i.ensures)
+    turn_is c.args.self.now l h (step_at c.args.action) c.in_ok-gate.gate c.in_ok-i.i c.in_ok-gate.ensures
+    (subst (λ (x : Circuit). NextOf (gates_in x) c.args.self.now.log.done (gate_at c.in_ok-gate.gate) c.in_ok-i.i) c.circuit.ensures c.in_ok-i.ensures)

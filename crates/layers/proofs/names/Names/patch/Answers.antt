@@ -3,8 +3,8 @@ use Rattle.std.specs.List.{swap}
 use Rattle.layers.proofs.OneToOne.{patched}
 use Rattle.layers.proofs.names.Names.patch.Goals as goal
 
-pub invariant-of-self : goal.invariant-of-self
-invariant-of-self c =
+pub invariant_of-self : goal.invariant_of-self
+invariant_of-self c =
     let n = c.args.self.now.width.n in
     let xs = c.args.self.now.table in
     let le : n ≤ length xs = search rules in

@@ -1,8 +1,8 @@
 use Rattle.layers.proofs.OneToOne.{straight}
 use Rattle.layers.proofs.names.Names.straight.Goals as goal
 
-pub invariant-of-result : goal.invariant-of-result
-invariant-of-result c =
+pub invariant_of-result : goal.invariant_of-result
+invariant_of-result c =
     let t = straight c.args.width.n c.counted-table.result c.args.width.ok c.counted-table.ensures in
     (t.0, (t.1, tt))
 

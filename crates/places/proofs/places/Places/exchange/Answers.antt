@@ -8,8 +8,8 @@ use Rattle.places.proofs.places.Places.exchange.Goals as goal
 both : (s : Places) → Both s.wires s.at s.on
 both s = record { inside = s.inside; back = s.back; held = s.held; there = s.there }
 
-pub invariant-of-self : goal.invariant-of-self
-invariant-of-self c =
+pub invariant_of-self : goal.invariant_of-self
+invariant_of-self c =
     let s = c.args.self.now in
     let a = c.args.a.0 in
     let b = c.args.b.0 in

@@ -6,32 +6,32 @@ use Rattle.plan.proofs.Circuits.{gates_length, gates_at}
 use Rattle.plan.proofs.Searching.{none_next, next_from, other_next}
 use Rattle.plan.proofs.circuit.Circuit.next.Goals as goal
 
-pub returns-in-err-i : goal.returns-in-err-i
-returns-in-err-i c = rw c.from-residual.ensures (none_next (gates_in c.args.self.now) c.args.done.now (gate_at c.args.gate)
-    (λ j h. c.in-err-i.ensures j (omega (arith, gates_length c.args.self.now))))
+pub returns-in_err-i : goal.returns-in_err-i
+returns-in_err-i c = rw c.from_residual.ensures (none_next (gates_in c.args.self.now) c.args.done.now (gate_at c.args.gate)
+    (λ j h. c.in_err-i.ensures j (omega (arith, gates_length c.args.self.now))))
 
-pub offset-bounds-self-i : goal.offset-bounds-self-i
-offset-bounds-self-i c =
+pub offset_bounds-self-i : goal.offset_bounds-self-i
+offset_bounds-self-i c =
     let s = c.args.self.now in
-    let f = c.in-ok-i.ensures in
+    let f = c.in_ok-i.ensures in
     omega (arith, f.listed, gates_length s, s.few)
 
 pub bounds-self-i : goal.bounds-self-i
 bounds-self-i c =
     let s = c.args.self.now in
-    let f = c.in-ok-i.ensures in
+    let f = c.in_ok-i.ensures in
     omega (arith, f.listed, gates_length s, s.few)
 
-pub returns-then-are-same : goal.returns-then-are-same
-returns-then-are-same c =
+pub returns-then-are_same : goal.returns-then-are_same
+returns-then-are_same c =
     let s = c.args.self.now in
-    let f = c.in-ok-i.ensures in
-    let h : c.in-ok-i.i < s.count = omega (arith, f.listed, gates_length s) in
-    next_from (gates_in s) c.args.done.now (gate_at c.args.gate) _ f (gates_at s c.in-ok-i.i h ∙ c.are-same.ensures.0 c.if-are-same.true)
+    let f = c.in_ok-i.ensures in
+    let h : c.in_ok-i.i < s.count = omega (arith, f.listed, gates_length s) in
+    next_from (gates_in s) c.args.done.now (gate_at c.args.gate) _ f (gates_at s c.in_ok-i.i h ∙ c.are_same.ensures.0 c.if-are_same.true)
 
-pub returns-else-are-same : goal.returns-else-are-same
-returns-else-are-same c =
+pub returns-else-are_same : goal.returns-else-are_same
+returns-else-are_same c =
     let s = c.args.self.now in
-    let f = c.in-ok-i.ensures in
-    let h : c.in-ok-i.i < s.count = omega (arith, f.listed, gates_length s) in
-    other_next (gates_in s) c.args.done.now (gate_at c.args.gate) _ f (λ e. both_ways _ c.if-are-same.false (c.are-same.ensures.1 (sym (gates_at s c.in-ok-i.i h) ∙ e)))
+    let f = c.in_ok-i.ensures in
+    let h : c.in_ok-i.i < s.count = omega (arith, f.listed, gates_length s) in
+    other_next (gates_in s) c.args.done.now (gate_at c.args.gate) _ f (λ e. both_ways _ c.if-are_same.false (c.are_same.ensures.1 (sym (gates_at s c.in_ok-i.i h) ∙ e)))

@@ -6,67 +6,67 @@ use Rattle.plan.proofs.Laying.{turned_chip}
 use Rattle.plan.proofs.Laid.{first_turned, circuit_turned, width_turned, kind_turned, all_accepted, plan_given, plan_laid}
 use Rattle.plan.proofs.plan.Plan.lay.Goals as goal
 
-pub returns-in-err-chip : goal.returns-in-err-chip
-returns-in-err-chip c =
-    let p = err_from_is_err_and c.from-residual.result c.from-residual.ensures.1 in
+pub returns-in_err-chip : goal.returns-in_err-chip
+returns-in_err-chip c =
+    let p = err_from_is_err_and c.from_residual.result c.from_residual.ensures.1 in
     let a = c.args.ability.now in
     let x = layout c.args.wires c.args.records.now c.args.qubits c.args.places.now c.args.gates.now in
-    rw (p.1, p.2) (turned_chip a.width (known a.kinds) x _ c.in-err-chip.ensures.answer)
+    rw (p.1, p.2) (turned_chip a.width (known a.kinds) x _ c.in_err-chip.ensures.answer)
 
-pub returns-in-err-first : goal.returns-in-err-first
-returns-in-err-first c =
-    let p = err_from_is_err_and c.from-residual-in-err-first.result c.from-residual-in-err-first.ensures.1 in
-    let chip = c.in-ok-chip.ensures.answer in
+pub returns-in_err-first : goal.returns-in_err-first
+returns-in_err-first c =
+    let p = err_from_is_err_and c.from_residual-in_err-first.result c.from_residual-in_err-first.ensures.1 in
+    let chip = c.in_ok-chip.ensures.answer in
     rw (p.1, p.2) (first_turned c.args.ability.now c.args.wires c.args.records.now c.args.qubits c.args.places.now c.args.gates.now
-    c.in-ok-chip.chip chip.0 chip.1 _ c.in-err-first.ensures)
+    c.in_ok-chip.chip chip.0 chip.1 _ c.in_err-first.ensures)
 
-pub returns-in-err-circuit : goal.returns-in-err-circuit
-returns-in-err-circuit c =
-    let p = err_from_is_err_and c.from-residual-in-err-circuit.result c.from-residual-in-err-circuit.ensures.1 in
-    let chip = c.in-ok-chip.ensures.answer in
+pub returns-in_err-circuit : goal.returns-in_err-circuit
+returns-in_err-circuit c =
+    let p = err_from_is_err_and c.from_residual-in_err-circuit.result c.from_residual-in_err-circuit.ensures.1 in
+    let chip = c.in_ok-chip.ensures.answer in
     rw (p.1, p.2) (circuit_turned c.args.ability.now c.args.wires c.args.records.now c.args.qubits c.args.places.now c.args.gates.now
-    c.in-ok-chip.chip chip.0 chip.1 c.in-ok-first.first c.in-ok-first.ensures _ c.in-err-circuit.ensures)
+    c.in_ok-chip.chip chip.0 chip.1 c.in_ok-first.first c.in_ok-first.ensures _ c.in_err-circuit.ensures)
 
 pub returns-then-width-wires : goal.returns-then-width-wires
 returns-then-width-wires c =
-    let chip = c.in-ok-chip.ensures.answer in
+    let chip = c.in_ok-chip.ensures.answer in
     width_turned c.args.ability.now c.args.wires c.args.records.now c.args.qubits c.args.places.now c.args.gates.now
-    c.in-ok-chip.chip chip.0 chip.1 c.in-ok-first.first c.in-ok-first.ensures
-    c.in-ok-circuit.circuit c.in-ok-circuit.ensures c.width-then-width-wires.result c.width-then-width-wires.ensures
+    c.in_ok-chip.chip chip.0 chip.1 c.in_ok-first.first c.in_ok-first.ensures
+    c.in_ok-circuit.circuit c.in_ok-circuit.ensures c.width-then-width-wires.result c.width-then-width-wires.ensures
     (omega (arith, c.width.ensures, c.width-then-width-wires.ensures, c.if-width-wires.true))
 
 pub returns-in-Some : goal.returns-in-Some
 returns-in-Some c =
-    let chip = c.in-ok-chip.ensures.answer in
+    let chip = c.in_ok-chip.ensures.answer in
     let u = c.in-Some.ensures in
     kind_turned c.args.ability.now c.args.wires c.args.records.now c.args.qubits c.args.places.now c.args.gates.now
-    c.in-ok-chip.chip chip.0 chip.1 c.in-ok-first.first c.in-ok-first.ensures
-    c.in-ok-circuit.circuit c.in-ok-circuit.ensures (omega (arith, c.width.ensures, c.if-width-wires.false))
+    c.in_ok-chip.chip chip.0 chip.1 c.in_ok-first.first c.in_ok-first.ensures
+    c.in_ok-circuit.circuit c.in_ok-circuit.ensures (omega (arith, c.width.ensures, c.if-width-wires.false))
     c.in-Some.i u.0 u.1 u.2
 
-pub invariant-of-result : goal.invariant-of-result
-invariant-of-result c =
-    let chip = c.in-ok-chip.ensures.answer in (
-      c.in-ok-first.ensures.wires,
+pub invariant_of-result : goal.invariant_of-result
+invariant_of-result c =
+    let chip = c.in_ok-chip.ensures.answer in (
+      c.in_ok-first.ensures.wires,
       (
         ∣ plan_laid c.args.ability.now c.args.wires c.args.records.now c.args.qubits c.args.places.now c.args.gates.now
-            c.in-ok-chip.chip chip.0 chip.1 c.in-ok-first.first c.in-ok-first.ensures
-            c.in-ok-circuit.circuit c.in-ok-circuit.ensures
+            c.in_ok-chip.chip chip.0 chip.1 c.in_ok-first.first c.in_ok-first.ensures
+            c.in_ok-circuit.circuit c.in_ok-circuit.ensures
             (all_accepted c.args.ability.now c.args.wires c.args.records.now c.args.qubits c.args.places.now c.args.gates.now
-            c.in-ok-chip.chip chip.0 chip.1 c.in-ok-first.first c.in-ok-first.ensures
-            c.in-ok-circuit.circuit c.in-ok-circuit.ensures (omega (arith, c.width.ensures, c.if-width-wires.false)) c.in-default.ensures) ∣₁,
+            c.in_ok-chip.chip chip.0 chip.1 c.in_ok-first.first c.in_ok-first.ensures
+            c.in_ok-circuit.circuit c.in_ok-circuit.ensures (omega (arith, c.width.ensures, c.if-width-wires.false)) c.in_default.ensures) ∣₁,
         tt,
       ),
     )
 
 pub returns : goal.returns
 returns c =
-    let chip = c.in-ok-chip.ensures.answer in
+    let chip = c.in_ok-chip.ensures.answer in
     record {
       accepted = all_accepted c.args.ability.now c.args.wires c.args.records.now c.args.qubits c.args.places.now c.args.gates.now
-          c.in-ok-chip.chip chip.0 chip.1 c.in-ok-first.first c.in-ok-first.ensures
-          c.in-ok-circuit.circuit c.in-ok-circuit.ensures (omega (arith, c.width.ensures, c.if-width-wires.false)) c.in-default.ensures;
+          c.in_ok-chip.chip chip.0 chip.1 c.in_ok-first.first c.in_ok-first.ensures
+          c.in_ok-circuit.circuit c.in_ok-circuit.ensures (omega (arith, c.width.ensures, c.if-width-wires.false)) c.in_default.ensures;
       given = plan_given c.args.ability.now c.args.wires c.args.records.now c.args.qubits c.args.places.now c.args.gates.now
-          c.in-ok-chip.chip chip.0 chip.1 c.in-ok-first.first c.in-ok-first.ensures
-          c.in-ok-circuit.circuit c.in-ok-circuit.ensures;
+          c.in_ok-chip.chip chip.0 chip.1 c.in_ok-first.first c.in_ok-first.ensures
+          c.in_ok-circuit.circuit c.in_ok-circuit.ensures;
     }
