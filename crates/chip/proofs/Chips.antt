@@ -1,13 +1,12 @@
 -- What holds of every chip, for the crates above, and that `Chip::new` has one answer.
-use Rattle.std.proofs.Common.{◌≡◌, ℕ, zero, suc, ◌+◌, ◌<◌, ◌≤◌, Bool, true, false, ◌⊎◌, List, IfOk, Ok, Err, Result, sym, refl, ap, ◌∙◌, subst, inl, inr, ⊎_elim, arith}
+use Rattle.std.proofs.Common.{◌≡◌, ℕ, zero, suc, ◌+◌, ◌<◌, ◌≤◌, true, false, ◌⊎◌, List, IfOk, Ok, Err, Result, sym, ◌∙◌, subst, inl, inr, ⊎_elim, arith}
 use mathlib.Core.HLevel.{⊥_prop}
 use mathlib.Core.Logic.{∥∥₁_elim}
 use Rattle.std.proofs.lemmas.Bool.{cases_eq, cases_lt, cases_Bool, both_ways}
 use Rattle.rows.specs.declared.refusal.Fault.{Fault}
-use Rattle.rows.specs.Refusals.{Accepted, Turned}
 use Rattle.rows.proofs.OneRefusal.{turned_same}
 use Rattle.chip.specs.declared.chip.Chip.{Chip}
-use Rattle.chip.specs.Charts.{Chart, chart, Walk, Distance, OnChip, OneNearer, ChipFits, Inside, GoodChart}
+use Rattle.chip.specs.Charts.{Chart, Walk, Distance, OnChip, OneNearer, ChipFits, Inside, GoodChart}
 use Rattle.chip.specs.Tables.{flag_at, number_at}
 use Rattle.chip.specs.Chips.{chart_of, ChipAnswer, SameAnswer}
 use Rattle.chip.proofs.Walks.{unsnoc}

@@ -1,11 +1,11 @@
 -- The chart of the records, and the chip that holds it.
-use Rattle.std.proofs.Common.{◌≡◌, ℕ, zero, suc, ◌+◌, ◌*◌, ◌/◌, ◌<◌, ◌≤◌, Bool, true, false, cond, not, ◌&&◌, ◌||◌, eqb, ltb, leb, ◌⊎◌, List, [], ◌∷◌, length, get_or, take, sym, refl, ap, ◌∙◌, subst, inl, inr, ⊎_elim, arith}
+use Rattle.std.proofs.Common.{◌≡◌, ℕ, ◌/◌, ◌<◌, ◌≤◌, Bool, true, false, ◌&&◌, ◌||◌, eqb, List, [], ◌∷◌, length, get_or, take, sym, refl, ap, ◌∙◌, subst, ⊎_elim, arith}
 use Rattle.std.proofs.lemmas.List.{take_all}
 use Rattle.std.proofs.lemmas.Bool.{or_cases, or_from, cases_Bool, both_ways, cond-true, cond-false, and_parts}
 use Rattle.std.proofs.lemmas.Bool.Decides.{nat_tests}
 use Rattle.rows.specs.declared.refusal.Refusal.{Refusal}
 use Rattle.rows.specs.Refusals.{Accepted, Turned}
-use Rattle.chip.specs.Charts.{Chart, Four, records, couples, joins_two, joins, lasts, amount, duration, chart, Walk, Distance, Even, GoodRecord, ChipFits, Inside, Symmetric, Irreflexive}
+use Rattle.chip.specs.Charts.{Four, records, couples, joins_two, joins, lasts, amount, duration, chart, Walk, Distance, Even, GoodRecord, ChipFits, Inside, Symmetric, Irreflexive}
 use Rattle.chip.specs.Tables.{flag_at, number_at, chart_at, links, Found, Read, Distances, AllReached}
 use Rattle.chip.proofs.Reading.{records_length}
 use Rattle.chip.proofs.Refusing.{turned_9, turned_10, accepted}

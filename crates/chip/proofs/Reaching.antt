@@ -1,9 +1,9 @@
 -- Breadth first: a wire found, a wire's neighbours, a round, and the end.
-use Rattle.std.proofs.Common.{◌≡◌, ℕ, zero, suc, ◌+◌, ◌<◌, ◌≤◌, Bool, true, false, cond, ◌⊎◌, List, [], length, get_or, set, replicate, sym, refl, ap, ◌∙◌, subst, inl, inr, ⊎_elim, add-one, arith, length-set}
+use Rattle.std.proofs.Common.{◌≡◌, ℕ, zero, suc, ◌+◌, ◌<◌, ◌≤◌, Bool, true, false, cond, List, [], length, get_or, set, replicate, sym, refl, ap, ◌∙◌, subst, inl, inr, ⊎_elim, arith, length-set}
 use Rattle.std.proofs.lemmas.List.{get_or-set_same, get_or-set_other}
 use Rattle.std.proofs.lemmas.List.Sums.{sum_by-set, count_by-le-length}
 use Rattle.std.proofs.lemmas.Bool.{cases_eq, cases_lt, both_ways, cond-false}
-use Rattle.chip.specs.Charts.{Chart, Walk, Distance, Inside}
+use Rattle.chip.specs.Charts.{Walk, Inside}
 use Rattle.chip.specs.Tables.{flag_at, links, Found, size, Level, Grown, AllReached}
 use Rattle.chip.proofs.Walks.{snoc, unsnoc, moved}
 

@@ -1,5 +1,5 @@
 -- Walks: one coupling more at the end, turned round, joined, and carried to another chart.
-use Rattle.std.proofs.Common.{◌≡◌, ℕ, zero, suc, ◌+◌, ◌<◌, ◌≤◌, Bool, true, false, sym, refl, ap, ◌∙◌, subst, suc-add, zero-add, arith}
+use Rattle.std.proofs.Common.{◌≡◌, ℕ, zero, suc, true, sym, refl, ◌∙◌, subst}
 use Rattle.chip.specs.Charts.{Chart, Walk, Distance, Symmetric}
 
 module _ (c : Chart) where

@@ -1,10 +1,10 @@
 -- The chips that are worked by hand.
-use Rattle.std.proofs.Common.{◌≡◌, ℕ, zero, suc, ◌+◌, ◌-◌, ◌<◌, ◌≤◌, Bool, true, false, cond, not, ◌&&◌, ◌||◌, eqb, ltb, leb, ◌⊎◌, List, length, get_or, take, sym, refl, ap, ◌∙◌, subst, inl, inr, ⊎_elim, arith}
+use Rattle.std.proofs.Common.{◌≡◌, ℕ, zero, suc, ◌+◌, ◌-◌, ◌<◌, ◌≤◌, Bool, true, ◌&&◌, ◌||◌, eqb, leb, List, length, take, sym, refl, subst, inl, inr, ⊎_elim, arith}
 use Rattle.std.proofs.lemmas.Bool.{and_parts, or_cases, cases_lt, cases_eq, eqb-true, leb-true, both_ways}
 use Rattle.std.proofs.lemmas.Bool.Decides.{nat_tests}
 use Rattle.rows.specs.declared.refusal.Refusal.{Refusal}
-use Rattle.rows.specs.Refusals.{Accepted, Turned}
-use Rattle.chip.specs.Charts.{records, couples, lasts, duration, record_number, GoodRecord, chart, Walk, Distance, Even, ChipFits}
+use Rattle.rows.specs.Refusals.{Turned}
+use Rattle.chip.specs.Charts.{records, couples, lasts, duration, record_number, GoodRecord, chart, Walk, ChipFits}
 use Rattle.chip.specs.Worked.{pair_records, square_records, WorkedChips}
 use Rattle.chip.proofs.Refusing.{turned_10, accepted}
 

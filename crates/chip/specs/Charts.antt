@@ -2,7 +2,7 @@
 use Rattle.std.specs.Prelude.{◌≡◌, ℕ, zero, suc, ◌+◌, ◌*◌, ◌%◌, ◌<◌, ◌≤◌, Bool, true, false, cond, ◌&&◌, ◌||◌, ◌⊎◌, List, [], ◌∷◌, length, take, ◌==◌, nat_le, slice_index_or}
 use Rattle.rows.specs.declared.refusal.Refusal.{Refusal}
 use Rattle.rows.specs.Kinds.{code}
-use Rattle.rows.specs.Steps.{Gate, one, two, Step, gate, swap, kind_of, pair_below}
+use Rattle.rows.specs.Steps.{one, two, Step, gate, swap, kind_of, pair_below}
 
 -- wires, whether two are coupled, and the cycles of a kind by its code, 12 for the exchange
 pub record Chart : Type 0 where

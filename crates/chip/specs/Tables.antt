@@ -1,5 +1,5 @@
 -- How the tables of the code stand for a chart. Nothing outside this crate cites these.
-use Rattle.std.specs.Prelude.{◌≡◌, ℕ, suc, ◌+◌, ◌<◌, ◌≤◌, Bool, true, false, ◌&&◌, ◌||◌, ◌⊎◌, List, [], length, take, count_by, slice_index, slice_index_or}
+use Rattle.std.specs.Prelude.{◌≡◌, ℕ, ◌+◌, ◌<◌, ◌≤◌, Bool, true, false, ◌⊎◌, List, [], length, take, count_by, slice_index, slice_index_or}
 use Rattle.chip.specs.Charts.{Chart, Walk, Distance, records, joins, duration, GoodRecord}
 
 -- row a, column b of a table

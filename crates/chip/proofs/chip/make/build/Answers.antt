@@ -1,5 +1,4 @@
-use Rattle.std.proofs.Common.{refl, arith, rules}
-use Rattle.chip.specs.Charts.{Even}
+use Rattle.std.proofs.Common.{arith, rules}
 use Rattle.chip.proofs.Making.{chart_is, chart_inside, chart_symmetric, chart_irreflexive, links_inside, made_timed, made_9, made_10, made_accepted, made_distant, made_near}
 use Rattle.chip.proofs.chip.make.build.Goals as goal
 
@@ -38,28 +37,17 @@ invariant_of-result c =
     let s = c.reach_from-first.ensures in
     let every = c.in_default-missing.ensures in
     let rows = c.distances-rows.result in
-    let right = c.distances-rows.ensures in (
-      omega arith,
-      (
-        omega arith,
-        (
-          chart_inside n bs d.couplings d.durations all,
-          (
-            chart_symmetric n bs d.couplings d.durations all,
-            (
-              chart_irreflexive n bs d.couplings d.durations all,
-              (
-                made_timed n bs d.couplings d.durations all (search rules) timed f.found f.steps s,
-                (
-                  made_distant n bs d.couplings d.durations all (search rules) timed f.found f.steps s every rows right,
-                  (made_near n bs d.couplings d.durations all (search rules) timed f.found f.steps s every rows right, tt),
-                ),
-              ),
-            ),
-          ),
-        ),
-      ),
-    )
+    let right = c.distances-rows.ensures in
+    record {
+      some = omega arith;
+      few = omega arith;
+      inside = chart_inside n bs d.couplings d.durations all;
+      symmetric = chart_symmetric n bs d.couplings d.durations all;
+      irreflexive = chart_irreflexive n bs d.couplings d.durations all;
+      timed = made_timed n bs d.couplings d.durations all (search rules) timed f.found f.steps s;
+      distant = made_distant n bs d.couplings d.durations all (search rules) timed f.found f.steps s every rows right;
+      near = made_near n bs d.couplings d.durations all (search rules) timed f.found f.steps s every rows right;
+    }
 
 pub returns : goal.returns
 returns c =

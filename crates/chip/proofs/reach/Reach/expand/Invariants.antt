@@ -1,4 +1,4 @@
-use Rattle.std.proofs.Common.{◌≡◌, ℕ, ◌<◌, true, get_or, MatchBool}
+use Rattle.std.proofs.Common.{◌≡◌, ℕ, ◌<◌, true, MatchBool}
 use Rattle.chip.specs.Tables.{flag_at, Found, size, Grown}
 use Rattle.chip.proofs.reach.Reach.expand.Given as goal
 

@@ -1,5 +1,5 @@
 use Rattle.std.proofs.Common.{arith, rules}
-use Rattle.chip.proofs.Reaching.{grown_same, found_grown, found_there, found_more}
+use Rattle.chip.proofs.Reaching.{found_grown, found_there, found_more}
 use Rattle.chip.proofs.reach.Reach.visit.Goals as goal
 
 pub returns : goal.returns

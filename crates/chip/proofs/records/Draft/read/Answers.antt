@@ -1,4 +1,4 @@
-use Rattle.std.proofs.Common.{◌≡◌, length, ap, ◌∙◌, arith}
+use Rattle.std.proofs.Common.{ap, ◌∙◌, arith}
 use Rattle.chip.specs.Charts.{Four, couples, lasts, amount}
 use Rattle.chip.proofs.Reading.{record_bytes, read_coupling, read_duration, twice_bad, neither_bad}
 use Rattle.chip.proofs.records.Draft.read.Goals as goal
