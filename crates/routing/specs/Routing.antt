@@ -5,7 +5,7 @@ use Rattle.rows.specs.declared.refusal.Refusal.{Refusal}
 use Rattle.rows.specs.declared.refusal.Fault.{Fault}
 use Rattle.rows.specs.Refusals.{Accepted, Turned}
 use Rattle.rows.specs.Steps.{Gate, one, two, Step, gate, swap, Timed, first_of, second_of, has, row_of}
-use Rattle.chip.specs.Charts.{Chart, Distance, OneNearer, Lowest, joined}
+use Rattle.chip.specs.Charts.{Distance, OneNearer, Lowest, joined}
 use Rattle.sheet.specs.Sheets.{Plan, Log, Front, placed, places_traded, larger_free, starting, NoneOpen, Keeps}
 use Rattle.sheet.specs.Refusals.{StepFits}
 

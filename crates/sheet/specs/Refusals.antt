@@ -4,9 +4,9 @@ use Rattle.rows.specs.declared.kind.Kind.{Kind}
 use Rattle.rows.specs.declared.row.Gate.{Gate as GateRow}
 use Rattle.rows.specs.declared.row.Step.{Step as StepRow}
 use Rattle.rows.specs.declared.refusal.Refusal.{Refusal}
-use Rattle.rows.specs.Steps.{Gate, Step, Timed, kind_of, gate_of, gate_row, step_of}
+use Rattle.rows.specs.Steps.{Gate, Step, kind_of, gate_of, gate_row, step_of}
 use Rattle.chip.specs.Charts.{ChipFits, joined}
-use Rattle.sheet.specs.Sheets.{Plan, Log, Sheet, unlaid, laid, Layout, kept, starting, end, larger_free, Ordered, Open}
+use Rattle.sheet.specs.Sheets.{Plan, Log, Sheet, laid, Layout, kept, starting, end, larger_free, Ordered, Open}
 
 -- 1 to 64 qubits
 pub record QubitsCounted (qubits : ℕ) : Type 0 where

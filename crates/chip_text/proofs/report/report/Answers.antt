@@ -1,4 +1,4 @@
-use Rattle.std.proofs.Common.{ℕ, List, get_or, string_bytes, subst, arith, rules}
+use Rattle.std.proofs.Common.{ℕ, List, get_or, string_bytes, subst, rules}
 use Rattle.std.proofs.lemmas.List.{take_rest}
 use Rattle.std.proofs.lemmas.Result.{IfOk-weaker}
 use Rattle.chip_text.specs.Report.{Text}
