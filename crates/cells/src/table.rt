@@ -22,7 +22,7 @@ fn number_at(numbers: &[u64], width: Width, wire: usize) -> u64
 
 /// The number of wires: those below the width that have a cell.
 pub fn count_wires<L: Local>(table: &[L::Cell], width: Width) -> u8
-    ensures { (minus : Bool) → result ≡ (local rule).wide (tabled blank width.n table.now minus) }
+    ensures { (minus : Bool) → result ≡ (local L.rule).wide (tabled L.blank width.n table.now minus) }
 {
     if table.len() < width.get() as usize {
         table.len() as u8
@@ -33,7 +33,7 @@ pub fn count_wires<L: Local>(table: &[L::Cell], width: Width) -> u8
 
 /// Writes each cell of the table: below the width from its number, or from 0 where there is none, and from 0 past it.
 pub fn fill_cells<L: Local>(table: &mut [L::Cell], width: Width, numbers: &[u64])
-    ensures { (minus : Bool) → tabled blank width.n table.new minus ≡ made_of (made width.n) (min width.n (length table.old)) numbers.now minus }
+    ensures { (minus : Bool) → tabled L.blank width.n table.new minus ≡ made_of (L.made width.n) (min width.n (length table.old)) numbers.now minus }
 {
     for i in 0..table.len() {
         table[i] = L::make(width.get(), number_at(numbers, width, i));
@@ -50,7 +50,7 @@ fn gate_one<L: Local>(
     k: u8,
 ) -> bool
     requires { double kind ≡ false }
-    ensures { tabled blank width.n table.new result ≡ (local rule).gated (one kind k a.0) (tabled blank width.n table.old minus) }
+    ensures { tabled L.blank width.n table.new result ≡ (local L.rule).gated (one kind k a.0) (tabled L.blank width.n table.old minus) }
 {
     let i = a.0 as usize;
     if !L::known(kind) || !width.has(a) || table.len() <= i {
@@ -72,7 +72,7 @@ fn gate_two<L: Local>(
     k: u8,
 ) -> bool
     requires { double kind ≡ true }
-    ensures { tabled blank width.n table.new result ≡ (local rule).gated (two kind k a.0 b.0) (tabled blank width.n table.old minus) }
+    ensures { tabled L.blank width.n table.new result ≡ (local L.rule).gated (two kind k a.0 b.0) (tabled L.blank width.n table.old minus) }
 {
     let (i, j) = (a.0 as usize, b.0 as usize);
     if !L::known(kind) || !width.has_two(a, b) || table.len() <= i || table.len() <= j {
@@ -94,7 +94,7 @@ pub fn gate_cells<L: Local>(
     b: Wire,
     k: u8,
 ) -> bool
-    ensures { tabled blank width.n table.new result ≡ (local rule).gated (gate_on kind k a.0 b.0) (tabled blank width.n table.old minus) }
+    ensures { tabled L.blank width.n table.new result ≡ (local L.rule).gated (gate_on kind k a.0 b.0) (tabled L.blank width.n table.old minus) }
 {
     if kind.is_double() {
         gate_two::<L>(table, minus, width, kind, a, b, k)
@@ -105,7 +105,7 @@ pub fn gate_cells<L: Local>(
 
 /// Two wires trade their cells.
 pub fn trade_cells<L: Local>(table: &mut [L::Cell], width: Width, a: Wire, b: Wire)
-    ensures { (minus : Bool) → tabled blank width.n table.new minus ≡ (local rule).traded a.0 b.0 (tabled blank width.n table.old minus) }
+    ensures { (minus : Bool) → tabled L.blank width.n table.new minus ≡ (local L.rule).traded a.0 b.0 (tabled L.blank width.n table.old minus) }
 {
     if width.has_two(a, b) {
         trade(table, a.0 as usize, b.0 as usize);
@@ -114,7 +114,7 @@ pub fn trade_cells<L: Local>(table: &mut [L::Cell], width: Width, a: Wire, b: Wi
 
 /// What a wire holds, as a number; 0 for a wire that is not below the width.
 pub fn read_cell<L: Local>(table: &[L::Cell], width: Width, wire: Wire) -> u64
-    ensures { (minus : Bool) → result ≡ (local rule).reads (tabled blank width.n table.now minus) wire.0 }
+    ensures { (minus : Bool) → result ≡ (local L.rule).reads (tabled L.blank width.n table.now minus) wire.0 }
 {
     let i = wire.0 as usize;
     if width.has(wire) && i < table.len() {

@@ -1,10 +1,10 @@
 -- Every local machine is lawful.
-use Rattle.std.proofs.Common.{◌≡◌, ℕ, ◌≤◌, min, Bool, true, false, cond, ◌&&◌, eqb, sym, refl, ap, ◌∙◌, arith}
+use Rattle.std.proofs.Common.{◌≡◌, ℕ, min, Bool, true, false, cond, ◌&&◌, sym, refl, ap, ◌∙◌, arith}
 use Rattle.std.proofs.lemmas.Bool.Decides.{nat_tests}
 use Rattle.std.proofs.lemmas.Bool.{cond-true, cond-false, and_from, and_left, and_right}
 use Rattle.rows.specs.Steps.{Gate, one, two, kind_of, pair_below, fits, shares, relabel, trade}
-use Rattle.machine.specs.Machines.{Acts, Lawful}
-use Rattle.machine.specs.Local.{Cells, Rule, differ, put, wires, worked, crossed, local}
+use Rattle.machine.specs.Machines.{Lawful}
+use Rattle.machine.specs.Local.{Cells, Rule, differ, wires, worked, crossed, local}
 use Rattle.machine.proofs.Trading.{trade_trade, fits_trade, relabel_kind}
 
 module _ {Cell : Type 0} where

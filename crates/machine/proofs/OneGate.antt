@@ -1,10 +1,10 @@
 -- What one gate of a local machine does to each cell.
-use Rattle.std.proofs.Common.{◌≡◌, ℕ, ◌<◌, min, Bool, true, false, cond, ◌&&◌, List, [], ◌∷◌, sym, refl, ap, ◌∙◌, arith}
+use Rattle.std.proofs.Common.{◌≡◌, ℕ, ◌<◌, min, Bool, true, false, cond, ◌&&◌, refl, ap, ◌∙◌, arith}
 use Rattle.std.proofs.lemmas.Bool.Decides.{nat_tests}
 use Rattle.std.proofs.lemmas.Bool.{cond-true, cond-false, and_right, eq-eqb}
 use Rattle.rows.specs.declared.kind.Kind.{Kind}
 use Rattle.rows.specs.Steps.{Gate, one, two, kind_of, fits, has}
-use Rattle.machine.specs.Local.{Cells, Rule, put, wires, worked, local}
+use Rattle.machine.specs.Local.{Cells, Rule, wires, worked, local}
 use Rattle.machine.proofs.LocalLaws.{does, keeps_width}
 
 -- a wire of a gate that fits is below the width

@@ -1,5 +1,5 @@
 -- Wires traded, and gates at the traded wires.
-use Rattle.std.proofs.Common.{◌≡◌, ℕ, true, false, refl, arith}
+use Rattle.std.proofs.Common.{◌≡◌, ℕ, true, refl, arith}
 use Rattle.std.proofs.lemmas.Bool.Decides.{nat_tests}
 use Rattle.rows.specs.Steps.{Gate, one, two, kind_of, pair_below, fits, relabel, trade}
 

@@ -1,4 +1,4 @@
-use Rattle.std.proofs.Common.{◌≤◌, length, arith}
+use Rattle.std.proofs.Common.{length, arith}
 use Rattle.cells.proofs.Entries.{tabled_made}
 use Rattle.cells.proofs.table.fill_cells.Goals as goal
 
