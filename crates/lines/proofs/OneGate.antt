@@ -1,11 +1,11 @@
 -- A line writes at most one gate.
-use Rattle.std.proofs.Common.{◌≡◌, ℕ, ◌+◌, ◌*◌, ◌<◌, ◌≤◌, Bool, true, false, cond, eqb, List, [], ◌∷◌, ◌++◌, length, codes, decimal, sym, refl, ap, ◌∙◌, subst, ⊎_elim, arith}
-use Rattle.std.proofs.lemmas.List.{append-nil, append_cancel_left}
+use Rattle.std.proofs.Common.{◌≡◌, ℕ, ◌+◌, ◌*◌, ◌<◌, Bool, true, false, cond, eqb, List, [], ◌∷◌, ◌++◌, length, codes, decimal, sym, refl, ap, ◌∙◌, subst, arith}
+use Rattle.std.proofs.lemmas.List.{append_cancel_left}
 use Rattle.rows.specs.declared.kind.Kind.{Kind}
 use Rattle.rows.specs.Kinds.{double, name, turns, k_suits}
-use Rattle.rows.specs.Steps.{Gate, one, two, kind_of, k_of, first_of, second_of}
+use Rattle.rows.specs.Steps.{Gate, one, two, kind_of, first_of}
 use Rattle.lines.specs.Number.{Digit, Unlike, Begins}
-use Rattle.lines.specs.Grammar.{ending, tail, line_of, paired, Writable, Writes}
+use Rattle.lines.specs.Grammar.{ending, tail, Writable, Writes}
 use Rattle.lines.proofs.Decimal.{begins_same, same_number}
 use Rattle.lines.proofs.Suits.{crk_bounds, crk_ending, none_suits, none_zero, none_ending, single_not}
 

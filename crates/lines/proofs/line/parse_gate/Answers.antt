@@ -1,4 +1,4 @@
-use Rattle.std.proofs.Common.{◌≡◌, [], length, sym, ap, ◌∙◌, true-eqb, false-eqb}
+use Rattle.std.proofs.Common.{length, sym, ap, ◌∙◌, true-eqb, false-eqb}
 use Rattle.std.proofs.lemmas.List.{nil_from_length}
 use Rattle.lines.proofs.OneGate.{parts, first_part, single_tail, double_tail, one_written, two_written}
 use Rattle.lines.proofs.line.parse_gate.Goals as goal

@@ -1,6 +1,6 @@
-use Rattle.std.proofs.Common.{◌≡◌, [], length, sym, ap, ◌∙◌, true-eqb, false-eqb}
+use Rattle.std.proofs.Common.{length, sym, ap, ◌∙◌, true-eqb, false-eqb}
 use Rattle.std.proofs.lemmas.List.{nil_from_length}
-use Rattle.lines.proofs.Suits.{crk_turns, others_not, crk_suits, crk_bounds, crk_ending, none_suits, none_ending}
+use Rattle.lines.proofs.Suits.{others_not, none_suits, none_ending}
 use Rattle.lines.proofs.operands.angle.Goals as goal
 
 pub returns-then-is_empty : goal.returns-then-is_empty

@@ -1,9 +1,6 @@
-use Rattle.std.proofs.Common.{◌≡◌, ◌++◌, codes, decimal, sym, ap, ◌∙◌, subst}
-use Rattle.std.proofs.lemmas.List.{append_cancel_left}
-use Rattle.lines.specs.Number.{Begins}
-use Rattle.lines.specs.Grammar.{ending}
+use Rattle.std.proofs.Common.{◌++◌, codes, decimal, ap, ◌∙◌}
 use Rattle.lines.proofs.Decimal.{begins_same}
-use Rattle.lines.proofs.OneGate.{second_begins, after_begins}
+use Rattle.lines.proofs.OneGate.{after_begins}
 use Rattle.lines.proofs.operands.second.Goals as goal
 
 pub returns-in_err-qubit : goal.returns-in_err-qubit

@@ -1,4 +1,4 @@
-use Rattle.std.proofs.Common.{codes, sym, ap, ◌∙◌, arith}
+use Rattle.std.proofs.Common.{codes, sym, ◌∙◌, arith}
 use Rattle.std.proofs.lemmas.List.{append_cancel_left}
 use Rattle.lines.proofs.Decimal.{same_number}
 use Rattle.lines.proofs.operands.turn.Goals as goal
