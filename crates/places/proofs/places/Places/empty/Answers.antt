@@ -7,4 +7,12 @@ pub invariant_of-result : goal.invariant_of-result
 invariant_of-result c =
     let few = c.wires-wires.ensures.range.1 in
     let t = both_counting c.wires-wires.result _ _ few c.counted-at.ensures c.counted-on.ensures in
-    (few, (omega arith, (t.inside, (t.back, (t.held, (t.there, (ap length c.counted-at.ensures ∙ length-range_with_len 0 64, tt)))))))
+    record {
+      few = few;
+      enough = omega arith;
+      inside = t.inside;
+      back = t.back;
+      held = t.held;
+      there = t.there;
+      long = ap length c.counted-at.ensures ∙ length-range_with_len 0 64;
+    }

@@ -1,5 +1,4 @@
-use Rattle.std.proofs.Common.{◌≡◌, ◌<◌, ◌≤◌, length, get_or, refl, ap, ◌∙◌, ⊎_elim, arith, rules}
-use Rattle.std.specs.List.{swap}
+use Rattle.std.proofs.Common.{◌<◌, ◌≤◌, length, refl, ap, ◌∙◌, ⊎_elim, arith, rules}
 use Rattle.std.proofs.lemmas.List.Edits.{length-swap}
 use Rattle.places.specs.declared.places.Places.{Places}
 use Rattle.places.proofs.Tables.{Both, both_after, places_after}
@@ -20,7 +19,15 @@ invariant_of-self c =
     let ea = c.trade.ensures.traded (omega (arith, s.held a ha)) (omega (arith, s.held b hb)) in
     let eo = c.trade-2.ensures.traded (omega arith) (omega arith) in
     let t = both_after s.wires s.at s.on _ _ a b (both s) la lo ha hb ea eo in
-    (s.few, (s.enough, (t.inside, (t.back, (t.held, (t.there, (ap length ea ∙ length-swap s.at _ _ ∙ s.long, tt)))))))
+    record {
+      few = s.few;
+      enough = s.enough;
+      inside = t.inside;
+      back = t.back;
+      held = t.held;
+      there = t.there;
+      long = ap length ea ∙ length-swap s.at _ _ ∙ s.long;
+    }
 
 pub returns : goal.returns
 returns c =

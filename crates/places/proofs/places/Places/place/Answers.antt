@@ -1,4 +1,4 @@
-use Rattle.std.proofs.Common.{◌<◌, ◌≤◌, length, refl, ◌∙◌, arith, rules}
+use Rattle.std.proofs.Common.{◌<◌, ◌≤◌, length, refl, ◌∙◌, rules}
 use Rattle.places.proofs.Tables.{Both}
 use Rattle.places.proofs.Placing.{entry_left, one_more, taken_by, not_taken}
 use Rattle.places.proofs.places.Places.place.Goals as goal

@@ -1,8 +1,8 @@
-use Rattle.std.proofs.Common.{◌≡◌, ℕ, ◌<◌, length, get_or, sym, refl, ap, ◌∙◌, subst, arith, below_more}
+use Rattle.std.proofs.Common.{ℕ, length, sym, ◌∙◌, subst, arith, below_more}
 use Rattle.chip.specs.Chips.{chart_of}
 use Rattle.rows.specs.declared.place.Wire.{Wire}
 use Rattle.rows.specs.declared.refusal.Fault.{Fault}
-use Rattle.sheet.specs.Refusals.{BadPlace, QubitsCounted}
+use Rattle.sheet.specs.Refusals.{BadPlace}
 use Rattle.places.specs.Placing.{numbers, Misplaced}
 use Rattle.places.proofs.Placing.{bad_here, good_here, next_placed, misplaced_at, all_placed}
 use Rattle.places.proofs.places.Places.place_all.Goals as goal
