@@ -1,18 +1,18 @@
 -- What the parts of a plan give for the whole of it.
-use Rattle.std.proofs.Common.{◌≡◌, ℕ, ◌<◌, ◌≤◌, true, false, List, length, sym, refl, ap, ◌∙◌, subst, arith}
+use Rattle.std.proofs.Common.{◌≡◌, ℕ, ◌<◌, ◌≤◌, true, false, List, length, sym, ap, ◌∙◌, subst, arith}
 use Rattle.rows.specs.declared.place.Wire.{Wire}
 use Rattle.rows.specs.declared.row.Gate.{Gate as GateRow}
 use Rattle.rows.specs.declared.refusal.Refusal.{Refusal}
 use Rattle.rows.specs.declared.refusal.Fault.{Fault}
 use Rattle.rows.specs.Refusals.{Accepted, Turned}
-use Rattle.rows.specs.Steps.{Gate, kind_of, gates_of}
+use Rattle.rows.specs.Steps.{kind_of, gates_of}
 use Rattle.chip.specs.declared.chip.Chip.{Chip}
 use Rattle.chip.specs.Charts.{Chart, chart, ChipFits}
 use Rattle.chip.specs.Chips.{chart_of}
 use Rattle.places.specs.declared.places.Places.{Places}
-use Rattle.places.specs.Placing.{Lays, Misplaced, numbers, places_of}
+use Rattle.places.specs.Placing.{Lays, Misplaced, numbers}
 use Rattle.sheet.specs.Refusals.{BadPlaces, UnknownRow}
-use Rattle.sheet.specs.Sheets.{Plan as SheetPlan, plan_of}
+use Rattle.sheet.specs.Sheets.{plan_of}
 use Rattle.sheet.specs.Runs.{LaidPlan}
 use Rattle.plan.specs.declared.ability.Ability.{Ability}
 use Rattle.plan.specs.declared.circuit.Circuit.{Circuit}

@@ -6,7 +6,7 @@ use Rattle.rows.specs.declared.refusal.Refusal.{Refusal}
 use Rattle.rows.specs.declared.refusal.Fault.{Fault}
 use Rattle.rows.specs.Numbers.{rank}
 use Rattle.rows.specs.Refusals.{Accepted, Turned}
-use Rattle.rows.specs.Steps.{Gate, kind_of, gate_of, gates_of}
+use Rattle.rows.specs.Steps.{kind_of, gate_of, gates_of}
 use Rattle.chip.specs.Charts.{ChipFits, ragged, bad_record, no_duration, parted}
 use Rattle.places.specs.Placing.{Misplaced}
 use Rattle.sheet.specs.Sheets.{unlaid, laid, Sheet, Layout}

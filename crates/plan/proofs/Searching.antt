@@ -1,9 +1,9 @@
 -- The gate that is next is the first that is not done and has a place in common with it.
-use Rattle.std.proofs.Common.{◌≡◌, ℕ, ◌<◌, Bool, true, false, List, length, sym, ap, ◌∙◌, subst, ⊎_elim, arith}
+use Rattle.std.proofs.Common.{◌≡◌, ℕ, ◌<◌, Bool, true, List, length, ap, ◌∙◌, ⊎_elim}
 use Rattle.std.proofs.lemmas.Bool.{both_ways, cases_order}
 use Rattle.rows.specs.Steps.{Gate, shares}
 use Rattle.theory.proofs.Places.{shares_self}
-use Rattle.plan.specs.Circuits.{number, Undone, NoneSharing, FirstSharing, NextOf}
+use Rattle.plan.specs.Circuits.{number, NoneSharing, FirstSharing, NextOf}
 
 module _ (gs : List Gate) (done : List Bool) (g : Gate) where
   self_common : (i : ℕ) → number gs i ≡ g → shares (number gs i) g ≡ true

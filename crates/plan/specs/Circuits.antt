@@ -5,7 +5,7 @@ use Rattle.rows.specs.declared.row.Gate.{Gate as GateRow}
 use Rattle.rows.specs.declared.refusal.Refusal.{Refusal}
 use Rattle.rows.specs.declared.refusal.Fault.{Fault}
 use Rattle.rows.specs.Steps.{Gate, one, gate_at, gates_of, shares}
-use Rattle.sheet.specs.Refusals.{BadRows, UnknownRow}
+use Rattle.sheet.specs.Refusals.{BadRows}
 use Rattle.plan.specs.declared.circuit.Circuit.{Circuit}
 
 -- the gates of the circuit, in order

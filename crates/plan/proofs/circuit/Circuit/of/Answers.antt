@@ -1,7 +1,6 @@
-use Rattle.std.proofs.Common.{◌≡◌, ℕ, ◌<◌, length, Some, None, Option, sym, refl, ◌∙◌, subst, arith, length-set, below_more}
-use Rattle.rows.specs.Steps.{Gate, gate_at, gate_of}
-use Rattle.sheet.specs.Refusals.{row_number}
-use Rattle.plan.proofs.Circuits.{DecodedBelow, gates_more, miswritten_at, miswritten_past, all_read}
+use Rattle.std.proofs.Common.{◌≡◌, ℕ, Some, None, sym, ◌∙◌, arith, length-set, below_more}
+use Rattle.rows.specs.Steps.{Gate, gate_at}
+use Rattle.plan.proofs.Circuits.{gates_more, miswritten_at, miswritten_past, all_read}
 use Rattle.plan.proofs.circuit.Circuit.of.Goals as goal
 
 some_not_none : (g : Gate) → Some g ≡ None → ⊥

@@ -1,7 +1,6 @@
-use Rattle.std.proofs.Common.{◌≡◌, ◌<◌, length, sym, ap, ◌∙◌, arith, below_more}
+use Rattle.std.proofs.Common.{sym, ap, ◌∙◌, arith, below_more}
 use Rattle.rows.specs.Steps.{kind_of}
 use Rattle.plan.specs.Abilities.{known}
-use Rattle.plan.specs.Circuits.{gates_in}
 use Rattle.plan.proofs.Circuits.{gates_length, gates_at}
 use Rattle.plan.proofs.circuit.Circuit.unknown.Goals as goal
 

@@ -1,4 +1,4 @@
-use Rattle.std.proofs.Common.{◌≡◌, sym, refl, ap, ◌∙◌, subst, arith}
+use Rattle.std.proofs.Common.{arith}
 use Rattle.std.proofs.lemmas.Result.{err_from_is_err_and}
 use Rattle.plan.specs.Abilities.{known}
 use Rattle.plan.specs.Laying.{layout}
@@ -46,18 +46,16 @@ returns-in-Some c =
 
 pub invariant_of-result : goal.invariant_of-result
 invariant_of-result c =
-    let chip = c.in_ok-chip.ensures.answer in (
-      c.in_ok-first.ensures.wires,
-      (
-        ∣ plan_laid c.args.ability.now c.args.wires c.args.records.now c.args.qubits c.args.places.now c.args.gates.now
-            c.in_ok-chip.chip chip.0 chip.1 c.in_ok-first.first c.in_ok-first.ensures
-            c.in_ok-circuit.circuit c.in_ok-circuit.ensures
-            (all_accepted c.args.ability.now c.args.wires c.args.records.now c.args.qubits c.args.places.now c.args.gates.now
-            c.in_ok-chip.chip chip.0 chip.1 c.in_ok-first.first c.in_ok-first.ensures
-            c.in_ok-circuit.circuit c.in_ok-circuit.ensures (omega (arith, c.width.ensures, c.if-width-wires.false)) c.in_default.ensures) ∣₁,
-        tt,
-      ),
-    )
+    let chip = c.in_ok-chip.ensures.answer in
+    record {
+      sized = c.in_ok-first.ensures.wires;
+      laid = ∣ plan_laid c.args.ability.now c.args.wires c.args.records.now c.args.qubits c.args.places.now c.args.gates.now
+          c.in_ok-chip.chip chip.0 chip.1 c.in_ok-first.first c.in_ok-first.ensures
+          c.in_ok-circuit.circuit c.in_ok-circuit.ensures
+          (all_accepted c.args.ability.now c.args.wires c.args.records.now c.args.qubits c.args.places.now c.args.gates.now
+          c.in_ok-chip.chip chip.0 chip.1 c.in_ok-first.first c.in_ok-first.ensures
+          c.in_ok-circuit.circuit c.in_ok-circuit.ensures (omega (arith, c.width.ensures, c.if-width-wires.false)) c.in_default.ensures) ∣₁;
+    }
 
 pub returns : goal.returns
 returns c =
