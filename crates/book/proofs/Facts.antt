@@ -1,14 +1,13 @@
 -- What a book that agrees with a sheet knows of it.
-use Rattle.std.proofs.Common.{◌≡◌, ℕ, ◌<◌, ◌≤◌, max, Bool, true, false, List, [], length, get_or, take, replicate, Some, sym, refl, ap, ◌∙◌, subst, arith}
+use Rattle.std.proofs.Common.{◌≡◌, ℕ, ◌<◌, ◌≤◌, max, false, List, [], length, get_or, take, replicate, sym, refl, ap, ◌∙◌, arith}
 use Rattle.std.proofs.lemmas.List.{get_or-take, take-replicate}
 use Rattle.std.proofs.lemmas.Bool.Decides.{nat_tests}
-use Rattle.rows.specs.declared.kind.Kind.{Kind}
 use Rattle.rows.specs.declared.row.Operation.{Operation}
-use Rattle.rows.specs.Steps.{Gate, one, two, Step, gate, swap, GoodStep, pair_below, fits, gate_at, first_wire, second_wire}
+use Rattle.rows.specs.Steps.{Gate, one, two, Step, gate, swap, GoodStep, fits, gate_at, first_wire, second_wire}
 use Rattle.places.specs.Placing.{places_of}
 use Rattle.places.proofs.Placing.{places_length}
 use Rattle.sheet.specs.Sheets.{Plan, Log as SheetLog, fresh, larger_free, Next, Ordered, at}
-use Rattle.sheet.specs.Runs.{Reached, LaidPlan, GoodPlaces, GoodPlan}
+use Rattle.sheet.specs.Runs.{LaidPlan, GoodPlaces, GoodPlan}
 use Rattle.theory.proofs.Sheets.{laid_good, reached_places}
 use Rattle.plan.specs.Circuits.{NextOf}
 use Rattle.plan.specs.Laying.{plan_in}

@@ -1,5 +1,5 @@
 -- The log after a kept step agrees with the sheet after it.
-use Rattle.std.proofs.Common.{◌≡◌, ℕ, zero, suc, ◌+◌, ◌<◌, ◌≤◌, max, Bool, true, List, [], ◌∷◌, ◌++◌, map, length, take, set, Some, sym, refl, ap, ◌∙◌, subst, ap₂, arith, length-append}
+use Rattle.std.proofs.Common.{◌≡◌, ℕ, zero, suc, ◌+◌, max, true, List, [], ◌∷◌, ◌++◌, length, take, set, Some, sym, refl, ap, ◌∙◌, arith, length-append}
 use Rattle.std.proofs.lemmas.List.{map-append}
 use Rattle.rows.specs.declared.row.Step.{Step as StepRow}
 use Rattle.rows.specs.Steps.{Gate, Step, gate, swap, Timed, first_wire, second_wire, step_of}
@@ -7,9 +7,9 @@ use Rattle.rows.specs.Refusals.{Accepted}
 use Rattle.machine.specs.Machines.{exchanges}
 use Rattle.chip.specs.Charts.{Chart}
 use Rattle.places.specs.Placing.{places_of}
-use Rattle.sheet.specs.Sheets.{Plan, Log as SheetLog, kept, starting, untimed, end, last_end, Next, freed, places_traded, logged}
+use Rattle.sheet.specs.Sheets.{Plan, Log as SheetLog, starting, untimed, end, last_end, Next, freed, places_traded, logged}
 use Rattle.sheet.specs.Refusals.{StepFits}
-use Rattle.sheet.specs.Runs.{Kept, Reached}
+use Rattle.sheet.specs.Runs.{Kept}
 use Rattle.theory.proofs.Sheets.{reached_kept}
 use Rattle.book.specs.declared.log.Log.{Log}
 use Rattle.book.specs.Agreeing.{Agrees}

@@ -1,11 +1,10 @@
 -- Exactly one answer fits a sheet and a step.
-use Rattle.std.proofs.Common.{◌≡◌, ℕ, length, Some, Ok, Err, Result, sym, refl, ap, ◌∙◌, subst, ap₂, arith}
-use Rattle.rows.specs.declared.kind.Kind.{Kind}
+use Rattle.std.proofs.Common.{◌≡◌, ℕ, Ok, Err, Result, sym, ap, ◌∙◌, subst, arith}
 use Rattle.rows.specs.declared.place.Wire.{Wire}
 use Rattle.rows.specs.declared.row.Step.{Step as StepRow}
 use Rattle.rows.specs.declared.row.Action.{Action}
 use Rattle.rows.specs.declared.refusal.Fault.{Fault}
-use Rattle.rows.specs.Steps.{Gate, one, two, Step, gate, swap, step_at}
+use Rattle.rows.specs.Steps.{Gate, Step, gate, swap, step_at}
 use Rattle.rows.proofs.OneRefusal.{turned_same}
 use Rattle.sheet.specs.Sheets.{Plan, Log as SheetLog, starting, end, Next}
 use Rattle.sheet.specs.Refusals.{StepFits}

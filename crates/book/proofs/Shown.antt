@@ -1,6 +1,6 @@
 -- What is shown of a book, by the sheets that it agrees with.
-use Rattle.std.proofs.Common.{◌≡◌, ℕ, ◌<◌, ◌≤◌, Bool, true, false, not, length, get_or, take, Some, None, MatchBool, Option, sym, refl, ap, ◌∙◌, subst, arith, MatchOption}
-use Rattle.std.proofs.lemmas.List.{get_or-take, length-take-le}
+use Rattle.std.proofs.Common.{◌≡◌, ℕ, ◌<◌, Bool, true, false, not, length, get_or, Some, None, MatchBool, Option, sym, ap, ◌∙◌, arith, MatchOption}
+use Rattle.std.proofs.lemmas.List.{get_or-take}
 use Rattle.std.proofs.lemmas.Bool.{both_ways}
 use Rattle.rows.specs.declared.refusal.Refusal.{Refusal}
 use Rattle.rows.specs.Numbers.{rank}
@@ -9,7 +9,7 @@ use Rattle.chip.specs.Charts.{Lowest}
 use Rattle.sheet.specs.Sheets.{Plan, Log as SheetLog, Open, NoneOpen, tally}
 use Rattle.sheet.specs.Refusals.{ClearFits, still_open}
 use Rattle.plan.specs.Laying.{plan_in}
-use Rattle.theory.proofs.Sheets.{reached_places, reached_lengths}
+use Rattle.theory.proofs.Sheets.{reached_lengths}
 use Rattle.book.specs.declared.verdict.Counts.{Counts}
 use Rattle.book.specs.declared.book.Book.{Book}
 use Rattle.book.specs.Books.{Holds, ListedOpen, tallied}

@@ -1,15 +1,14 @@
 -- What a step that the book allows asks of its tables, and what they are after it.
-use Rattle.std.proofs.Common.{◌≡◌, ℕ, ◌+◌, ◌<◌, ◌≤◌, max, Bool, true, List, length, set, Some, sym, refl, ap, ◌∙◌, subst, ⊎_elim, arith}
+use Rattle.std.proofs.Common.{◌≡◌, ℕ, ◌+◌, ◌<◌, ◌≤◌, max, true, set, Some, ap, ◌∙◌, subst, ⊎_elim, arith}
 use mathlib.Core.Logic.{∥∥₁_elim}
 use native.Mathlib.Bridge.{le_prop}
-use Rattle.std.proofs.lemmas.Bool.Decides.{nat_tests}
 use Rattle.std.proofs.lemmas.Bool.{cases_lt}
 use Rattle.rows.specs.declared.place.Wire.{Wire}
 use Rattle.rows.specs.declared.row.Step.{Step as StepRow}
 use Rattle.rows.specs.declared.refusal.Refusal.{Refusal}
-use Rattle.rows.specs.Steps.{Gate, Step, gate, swap, GoodStep, step_at, step_of, first_wire, second_wire}
+use Rattle.rows.specs.Steps.{Step, gate, swap, GoodStep, step_at, step_of, first_wire, second_wire}
 use Rattle.places.specs.Placing.{places_of}
-use Rattle.sheet.specs.Sheets.{Plan, Log as SheetLog, kept, starting, end, Next, places_traded}
+use Rattle.sheet.specs.Sheets.{Log as SheetLog, kept, starting, end, places_traded}
 use Rattle.sheet.specs.Refusals.{full}
 use Rattle.sheet.specs.Runs.{Kept}
 use Rattle.theory.proofs.Rows.{step_of_good}

@@ -3,13 +3,11 @@ use Rattle.std.proofs.Common.{◌≡◌, ℕ, ◌<◌, ◌≤◌, Bool, true, fa
 use Rattle.std.proofs.lemmas.List.{get_or-take, get_or_default}
 use Rattle.std.proofs.lemmas.Bool.Decides.{nat_tests}
 use Rattle.rows.specs.declared.kind.Kind.{Kind}
-use Rattle.rows.specs.declared.place.Wire.{Wire}
 use Rattle.rows.specs.declared.row.Operation.{Operation}
-use Rattle.rows.specs.declared.row.Action.{Action}
-use Rattle.rows.specs.Steps.{Gate, one, two, Step, gate, swap, fits, shares, first_of, second_of, gate_at, step_at, relabel}
-use Rattle.sheet.specs.Sheets.{Plan, Log as SheetLog, at, Next, Ordered, Open}
+use Rattle.rows.specs.Steps.{Gate, one, two, Step, gate, swap, fits, shares, first_of, second_of, gate_at}
+use Rattle.sheet.specs.Sheets.{Plan, Log as SheetLog, at, Next, Ordered}
 use Rattle.sheet.specs.Runs.{GoodPlaces, GoodPlan}
-use Rattle.plan.specs.Circuits.{Undone, NextOf}
+use Rattle.plan.specs.Circuits.{NextOf}
 use Rattle.book.specs.Books.{Brings, BringsNone}
 
 below_first : (n : ℕ) (g : Gate) → fits n g ≡ true → first_of g < n

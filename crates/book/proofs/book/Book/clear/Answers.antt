@@ -1,4 +1,4 @@
-use Rattle.std.proofs.Common.{◌≡◌, length, refl, ap, ◌∙◌}
+use Rattle.std.proofs.Common.{length, refl, ap, ◌∙◌}
 use Rattle.plan.specs.declared.circuit.Circuit.{Circuit}
 use Rattle.plan.specs.Circuits.{gates_in}
 use Rattle.plan.specs.Laying.{plan_in}

@@ -1,4 +1,4 @@
-use Rattle.std.proofs.Common.{◌≡◌, length, ap, ◌∙◌, arith}
+use Rattle.std.proofs.Common.{length, ap, ◌∙◌, arith}
 use Rattle.plan.specs.declared.circuit.Circuit.{Circuit}
 use Rattle.plan.specs.Circuits.{gates_in}
 use Rattle.book.proofs.book.Book.first_undone.Goals as goal

@@ -1,4 +1,4 @@
-use Rattle.std.proofs.Common.{◌≡◌, ap, ◌∙◌, arith}
+use Rattle.std.proofs.Common.{ap, ◌∙◌, arith}
 use Rattle.chip.specs.declared.chip.Chip.{Chip}
 use Rattle.chip.specs.Chips.{chart_of}
 use Rattle.book.proofs.Shown.{free_length, free_at}

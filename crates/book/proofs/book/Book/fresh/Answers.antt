@@ -9,16 +9,12 @@ use Rattle.book.proofs.book.Book.fresh.Goals as goal
 pub invariant_of-result : goal.invariant_of-result
 invariant_of-result c =
     let e = c.fresh-log.ensures in
-    let same : c.fresh-log.result.places ≡ c.args.plan.first = e.places ∙ c.first.ensures in (
-      ap (λ (s : Places). s.wires) same,
-      (
-        ap (λ (s : Places). s.qubits) same,
-        (
-          ∥∥₁_map c.args.plan.laid (λ laid. (fresh (plan_in c.args.plan), fresh_agrees c.args.plan c.fresh-log.result laid same e.tables.0 e.tables.1 e.counts.0 e.counts.1 e.counts.2)),
-          tt,
-        ),
-      ),
-    )
+    let same : c.fresh-log.result.places ≡ c.args.plan.first = e.places ∙ c.first.ensures in
+    record {
+      wires = ap (λ (s : Places). s.wires) same;
+      qubits = ap (λ (s : Places). s.qubits) same;
+      agrees = ∥∥₁_map c.args.plan.laid (λ laid. (fresh (plan_in c.args.plan), fresh_agrees c.args.plan c.fresh-log.result laid same e.tables.0 e.tables.1 e.counts.0 e.counts.1 e.counts.2));
+    }
 
 pub returns : goal.returns
 returns c =

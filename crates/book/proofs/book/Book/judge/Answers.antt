@@ -1,7 +1,7 @@
-use Rattle.std.proofs.Common.{◌≡◌, ℕ, ◌+◌, ◌<◌, ◌≤◌, Bool, true, false, Some, None, Option, sym, refl, ap, ◌∙◌, subst, arith, lit≤}
+use Rattle.std.proofs.Common.{◌≡◌, ℕ, Some, None, Option, sym, ap, ◌∙◌, subst, arith, lit≤}
 use Rattle.rows.specs.declared.row.Step.{Step as StepRow}
 use Rattle.rows.specs.declared.refusal.Refusal.{Refusal}
-use Rattle.rows.specs.Steps.{Step, step_at, step_of, GoodStep, first_wire, second_wire}
+use Rattle.rows.specs.Steps.{Step, step_at, step_of}
 use Rattle.chip.specs.declared.chip.Chip.{Chip}
 use Rattle.chip.specs.Chips.{chart_of}
 use Rattle.sheet.specs.Sheets.{Plan, Log as SheetLog, Ordered}

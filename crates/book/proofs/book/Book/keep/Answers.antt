@@ -1,5 +1,5 @@
 use mathlib.Core.Logic.{∥∥₁_map}
-use Rattle.std.proofs.Common.{◌≡◌, ℕ, suc, ◌+◌, true, set, Ok, Err, Result, sym, refl, ap, ◌∙◌, arith}
+use Rattle.std.proofs.Common.{◌≡◌, ℕ, suc, ◌+◌, true, set, Ok, Err, Result, refl, ap, ◌∙◌, arith}
 use Rattle.places.specs.Placing.{places_of}
 use Rattle.sheet.specs.Sheets.{places_traded}
 use Rattle.rows.specs.declared.refusal.Fault.{Fault}
@@ -50,35 +50,27 @@ invariant_of-self c =
     let b = c.args.self.now in
     let e = c.lock.ensures in
     let m = c.mark.ensures in
-    let same = m.rest.0 ∙ e.rest.0 in (
-      ap (λ (s : Places). s.wires) same ∙ b.wires,
-      (
-        ap (λ (s : Places). s.qubits) same ∙ b.qubits,
-        (
-          ∥∥₁_map b.agrees (λ x. let a = after_gate b x.0 x.1 c.args.step c.in_ok-verdict.verdict (c.in_ok-verdict.ensures.judges x.0 x.1)
-              c.mark.new.self c.in-Gate.i c.in-Gate.is _ _ c.wires_of.ensures.0 c.wires_of.ensures.1
-              (m.rest.1 ∙ e.free) (m.counts.0 ∙ e.counts.0) (m.counts.2 ∙ e.counts.1) (m.rest.0 ∙ e.rest.0) (m.done ∙ ap (λ ds. set ds c.in-Gate.i true) e.rest.1) (m.counts.1 ∙ e.rest.2) in (a.0, a.2)),
-          tt,
-        ),
-      ),
-    )
+    let same = m.rest.0 ∙ e.rest.0 in
+    record {
+      wires = ap (λ (s : Places). s.wires) same ∙ b.wires;
+      qubits = ap (λ (s : Places). s.qubits) same ∙ b.qubits;
+      agrees = ∥∥₁_map b.agrees (λ x. let a = after_gate b x.0 x.1 c.args.step c.in_ok-verdict.verdict (c.in_ok-verdict.ensures.judges x.0 x.1)
+          c.mark.new.self c.in-Gate.i c.in-Gate.is _ _ c.wires_of.ensures.0 c.wires_of.ensures.1
+          (m.rest.1 ∙ e.free) (m.counts.0 ∙ e.counts.0) (m.counts.2 ∙ e.counts.1) (m.rest.0 ∙ e.rest.0) (m.done ∙ ap (λ ds. set ds c.in-Gate.i true) e.rest.1) (m.counts.1 ∙ e.rest.2) in (a.0, a.2));
+    }
 
 pub invariant_of-self-in-Exchange : goal.invariant_of-self-in-Exchange
 invariant_of-self-in-Exchange c =
     let b = c.args.self.now in
     let e = c.lock.ensures in
-    let m = c.trade.ensures in (
-      m.size.wires ∙ ap (λ (s : Places). s.wires) e.rest.0 ∙ b.wires,
-      (
-        m.size.qubits ∙ ap (λ (s : Places). s.qubits) e.rest.0 ∙ b.qubits,
-        (
-          ∥∥₁_map b.agrees (λ x. let a = after_exchange b x.0 x.1 c.args.step c.in_ok-verdict.verdict (c.in_ok-verdict.ensures.judges x.0 x.1)
-              c.trade.new.self c.in-Exchange.a c.in-Exchange.b c.in-Exchange.is _ _ c.wires_of.ensures.0 c.wires_of.ensures.1
-              (m.rest.1 ∙ e.free) (m.counts.0 ∙ e.counts.0) (m.counts.2 ∙ e.counts.1) (m.places ∙ ap (λ (s : Places). places_traded c.in-Exchange.a.0 c.in-Exchange.b.0 (places_of s)) e.rest.0) (m.rest.0 ∙ e.rest.1) (m.counts.1 ∙ ap (λ (n : ℕ). n + 1) e.rest.2) in (a.0, a.2)),
-          tt,
-        ),
-      ),
-    )
+    let m = c.trade.ensures in
+    record {
+      wires = m.size.wires ∙ ap (λ (s : Places). s.wires) e.rest.0 ∙ b.wires;
+      qubits = m.size.qubits ∙ ap (λ (s : Places). s.qubits) e.rest.0 ∙ b.qubits;
+      agrees = ∥∥₁_map b.agrees (λ x. let a = after_exchange b x.0 x.1 c.args.step c.in_ok-verdict.verdict (c.in_ok-verdict.ensures.judges x.0 x.1)
+          c.trade.new.self c.in-Exchange.a c.in-Exchange.b c.in-Exchange.is _ _ c.wires_of.ensures.0 c.wires_of.ensures.1
+          (m.rest.1 ∙ e.free) (m.counts.0 ∙ e.counts.0) (m.counts.2 ∙ e.counts.1) (m.places ∙ ap (λ (s : Places). places_traded c.in-Exchange.a.0 c.in-Exchange.b.0 (places_of s)) e.rest.0) (m.rest.0 ∙ e.rest.1) (m.counts.1 ∙ ap (λ (n : ℕ). n + 1) e.rest.2) in (a.0, a.2));
+    }
 
 pub returns-in-Gate : goal.returns-in-Gate
 returns-in-Gate c =

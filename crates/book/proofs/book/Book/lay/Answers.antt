@@ -1,4 +1,4 @@
-use Rattle.std.proofs.Common.{◌≡◌, sym, ap, ◌∙◌, subst}
+use Rattle.std.proofs.Common.{sym, subst}
 use Rattle.sheet.specs.Sheets.{fresh}
 use Rattle.sheet.specs.Runs.{LaidPlan}
 use Rattle.plan.specs.declared.plan.Plan.{Plan}

@@ -1,4 +1,4 @@
-use Rattle.std.proofs.Common.{◌≡◌, ℕ, sym, ap, ◌∙◌, subst, arith}
+use Rattle.std.proofs.Common.{◌≡◌, ℕ, subst, arith}
 use Rattle.rows.specs.declared.place.Wire.{Wire}
 use Rattle.rows.specs.declared.row.Action.{Action}
 use Rattle.rows.specs.Steps.{swap, step_at, gate_at}
