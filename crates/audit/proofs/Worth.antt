@@ -1,15 +1,13 @@
 -- What the answers to all steps of a list are worth.
-use Rattle.std.proofs.Common.{◌≡◌, ℕ, ◌≤◌, List, [], ◌∷◌, map, length, Some, None, Ok, Err, Option, Result, sym, refl, ap, ◌∙◌, subst, arith}
+use Rattle.std.proofs.Common.{◌≡◌, ℕ, List, [], ◌∷◌, map, Some, None, Ok, Err, Option, Result, sym, refl, ◌∙◌, subst}
 use lib.ListN.{length-map}
 use Rattle.rows.specs.declared.row.Step.{Step as StepRow}
 use Rattle.rows.specs.declared.refusal.Refusal.{Refusal}
 use Rattle.rows.specs.declared.refusal.Fault.{Fault}
-use Rattle.rows.specs.Refusals.{Accepted, Turned}
-use Rattle.rows.specs.Steps.{Step}
 use Rattle.sheet.specs.Sheets.{Plan, Log, fresh, NoneOpen}
-use Rattle.sheet.specs.Refusals.{StepFits, ClearFits, still_open}
-use Rattle.sheet.specs.Runs.{Kept, AllKept, Reached}
-use Rattle.theory.specs.Laws.{FollowsCircuit, InRules, NoneCanTell}
+use Rattle.sheet.specs.Refusals.{ClearFits, still_open}
+use Rattle.sheet.specs.Runs.{AllKept, Reached}
+use Rattle.theory.specs.Laws.{FollowsCircuit}
 use Rattle.theory.proofs.Sheets.{kept_same, reached_kept, nothing_kept}
 use Rattle.theory.proofs.Standing.{stands_by_sheet}
 use Rattle.theory.proofs.Clearing.{clears_alone}

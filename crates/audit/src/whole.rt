@@ -47,7 +47,7 @@ fn play(book: &mut Book, trials: &mut [Trial]) -> Result<Counts, Fault>
 pub fn audit(book: &mut Book, trials: &mut [Trial]) -> Result<Counts, Fault>
     ensures plays { Plays book.old trials.old book.new trials.new }
     ensures clears { (l : SheetLog) → Holds book.new l → Clears (plan_in book.old.plan) l result }
-    ensures* worth { fact 𝓤 (Audited book.old trials.old book.new trials.new result) ∗ ⊤ₛ }
+    ensures* worth { fact 𝓤 (Audited book.old trials.old book.new trials.new result) }
 {
     play(book, trials)
 }

@@ -1,4 +1,4 @@
-use Rattle.std.proofs.Common.{◌≡◌, sym, refl, subst}
+use Rattle.std.proofs.Common.{sym, refl, subst}
 use Rattle.book.specs.declared.book.Book.{Book}
 use Rattle.book.specs.Books.{Holds}
 use Rattle.audit.proofs.whole.offer.Goals as goal
