@@ -1,5 +1,5 @@
 -- The code, run on the worked cases.
-use Rattle.std.proofs.Common.{◌≡◌, ℕ, true, List, [], ◌∷◌, Ok, Err, Result, sym, refl, ap, ◌∙◌, subst, MatchResult}
+use Rattle.std.proofs.Common.{◌≡◌, ℕ, true, List, [], ◌∷◌, Ok, Err, Result, sym, ◌∙◌, subst, MatchResult}
 use Rattle.rows.specs.declared.kind.Kind.{Kind}
 use Rattle.rows.specs.declared.place.Wire.{Wire}
 use Rattle.rows.specs.declared.row.Gate.{Gate as GateRow}
@@ -8,8 +8,8 @@ use Rattle.rows.specs.declared.refusal.Fault.{Fault}
 use Rattle.rows.specs.Refusals.{Accepted, Turned}
 use Rattle.rows.specs.Steps.{gate_row}
 use Rattle.chip.specs.Worked.{square_records}
-use Rattle.sheet.specs.Sheets.{Plan, Log, unlaid, fresh, tally}
-use Rattle.sheet.specs.Refusals.{LayFits, ClearFits}
+use Rattle.sheet.specs.Sheets.{Plan, Log, unlaid, fresh}
+use Rattle.sheet.specs.Refusals.{LayFits}
 use Rattle.sheet.specs.Runs.{AllKept}
 use Rattle.plan.specs.declared.ability.Ability.{Ability}
 use Rattle.plan.specs.Abilities.{known}
@@ -18,7 +18,7 @@ use Rattle.book.specs.declared.book.Book.{Book}
 use Rattle.book.specs.declared.verdict.Counts.{Counts}
 use Rattle.book.specs.Books.{Holds, tallied}
 use Rattle.audit.specs.declared.trial.Trial.{Trial}
-use Rattle.audit.specs.Audits.{Plays, Clears, Answered}
+use Rattle.audit.specs.Audits.{Plays, Clears}
 use Rattle.audit.proofs.Worth.{steps_in, none_refused}
 use Rattle.book_cases.specs.Square.{given, plan, routed_rows, at_end}
 use Rattle.book_cases.proofs.Square.{square_cases}

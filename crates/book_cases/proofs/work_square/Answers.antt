@@ -1,4 +1,4 @@
-use Rattle.std.proofs.Common.{◌≡◌, [], ◌∷◌, refl}
+use Rattle.std.proofs.Common.{[], ◌∷◌}
 use Rattle.book_cases.proofs.Running.{counted_square}
 use Rattle.book_cases.proofs.Square.{square_cases}
 use Rattle.book_cases.proofs.work_square.Goals as goal
