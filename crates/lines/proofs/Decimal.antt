@@ -2,7 +2,7 @@
 use Rattle.std.proofs.Common.{◌≡◌, ℕ, ◌+◌, ◌-◌, ◌*◌, ◌^◌, ◌<◌, ◌≤◌, List, [], ◌++◌, length, get_or, take, decimal, sym, refl, ap, ◌∙◌, subst, ⊎_elim, arith, length-take-le}
 use Rattle.std.specs.Str.Parse.{digits_value}
 use Rattle.std.specs.Char.{digit_value}
-use Rattle.std.specs.List.{AllByRecursion as All}
+use Rattle.std.specs.List.{AllByRecursion}
 use Rattle.std.proofs.lemmas.Fmt.{decimal-digits_value, digits_decimal, decimal_nonempty, length-decimal-le, first_decimal, decimal_digit, decimal_injective}
 use Rattle.std.proofs.lemmas.Int.Digits.{digits_value_more}
 use Rattle.std.proofs.ByRecursion.{All-get_or, All-from_get_or, All-take}
@@ -21,16 +21,16 @@ AllDigits ds = (i : ℕ) → i < length ds → Digit (get_or ds i 0)
 own : IsNumeralModel AllDigits (digits_value 10)
 own = numerals_by_value _ tells_by_index
 
-by_index : (ds : List ℕ) → All Digit ds → AllDigits ds
+by_index : (ds : List ℕ) → AllByRecursion Digit ds → AllDigits ds
 by_index ds all i lt = All-get_or Digit ds i 0 lt all
 
 digit_is : (c : ℕ) → Digit c → digit_value c ≡ c - 48
 digit_is c h = grind (arith, nat_tests)
 
-pub value_room : (ds : List ℕ) (i : ℕ) → All Digit ds → i < length ds → length ds ≤ 4 → digits_value 10 (take i ds) < 1000
+pub value_room : (ds : List ℕ) (i : ℕ) → AllByRecursion Digit ds → i < length ds → length ds ≤ 4 → digits_value 10 (take i ds) < 1000
 value_room ds i all h four = let le : i ≤ length ds = omega arith in digits_value_short own (take i ds) 3 (by_index (take i ds) (All-take Digit i ds all)) (omega (arith, length-take-le i ds le))
 
-pub value_next : (ds : List ℕ) (i : ℕ) → All Digit ds → i < length ds → digits_value 10 (take (i + 1) ds) ≡ digits_value 10 (take i ds) * 10 + (get_or ds i 0 - 48)
+pub value_next : (ds : List ℕ) (i : ℕ) → AllByRecursion Digit ds → i < length ds → digits_value 10 (take (i + 1) ds) ≡ digits_value 10 (take i ds) * 10 + (get_or ds i 0 - 48)
 value_next ds i all h = digits_value_more 10 ds i h ∙ ap (λ d. digits_value 10 (take i ds) * 10 + d) (digit_is (get_or ds i 0) (by_index ds all i h))
 
 -- one to four digits with no leading zero are a number
@@ -65,7 +65,7 @@ begins_same s v w r t b d =
 pub whole : (s : List ℕ) (v : ℕ) → v < 10000 → s ≡ decimal v → Begins s v []
 whole s v small e = record { small = small; ended = tt; split = e ∙ sym (append-nil (decimal v)) }
 
-pub decimal_all : (v : ℕ) → v < 10000 → All Digit (decimal v)
+pub decimal_all : (v : ℕ) → v < 10000 → AllByRecursion Digit (decimal v)
 decimal_all v small = All-from_get_or Digit (decimal v) 0 (digits_decimal own v (omega arith))
 
 pub same_number : (v w : ℕ) → v < 10000 → w < 10000 → decimal v ≡ decimal w → v ≡ w

@@ -1,6 +1,6 @@
 -- Runs of one class of bytes at the front of a line.
 use Rattle.std.proofs.Common.{◌≡◌, ℕ, ◌<◌, ◌≤◌, List, [], ◌∷◌, ◌++◌, length, get_or, take, drop, sym, refl, ap, ◌∙◌, subst, add-zero, arith, length-append, length-drop, take-append-drop, length-take-le, get_or-drop, get_or-take}
-use Rattle.std.specs.List.{AllByRecursion as All}
+use Rattle.std.specs.List.{AllByRecursion}
 use Rattle.std.proofs.ByRecursion.{All-from_get_or}
 use Rattle.lines.specs.Number.{Unlike}
 use Rattle.lines.specs.Tokens.{Longest}
@@ -21,7 +21,7 @@ module _ (C : ℕ → Type 0) where
         split = sym (take-append-drop n s) ∙ (λ t. sym front t ++ sym back t);
       }
 
-  run_same : (w v r t : List ℕ) → All C w → All C v → Unlike C r → Unlike C t → w ++ r ≡ v ++ t → (w ≡ v) × (r ≡ t)
+  run_same : (w v r t : List ℕ) → AllByRecursion C w → AllByRecursion C v → Unlike C r → Unlike C t → w ++ r ≡ v ++ t → (w ≡ v) × (r ≡ t)
   run_same [] [] r t p q u d e = (refl, e)
   run_same [] (b ∷ v) r t p q u d e = absurd (subst (Unlike C) e u q.0)
   run_same (a ∷ w) [] r t p q u d e = absurd (subst (Unlike C) (sym e) d p.0)

@@ -1,7 +1,7 @@
 -- The tokens of a line.
 use Rattle.std.specs.Prelude.{◌≡◌, ℕ, ◌<◌, List, [], ◌∷◌, ◌++◌, length}
 use Rattle.std.specs.Int.{IsInRange}
-use Rattle.std.specs.List.{AllByRecursion as All}
+use Rattle.std.specs.List.{AllByRecursion}
 use Rattle.lines.specs.Number.{Digit, Unlike}
 use Rattle.lines.specs.declared.token.Token.{Token}
 
@@ -12,7 +12,7 @@ Letter b = IsInRange 97 122 b
 -- w is the longest front of s whose bytes are all of one class, and rest comes after it
 pub record Longest (C : ℕ → Type 0) (s w rest : List ℕ) : Type 0 where
   pub some : 0 < length w
-  pub all : All C w
+  pub all : AllByRecursion C w
   pub ends : Unlike C rest
   pub split : s ≡ w ++ rest
 

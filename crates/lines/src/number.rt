@@ -1,6 +1,6 @@
 // Numbers in a circuit's text: one to four digits, with no leading zero.
 ghost use Rattle.std.specs.Prelude.{◌≡◌, ℕ, ◌<◌, ◌≤◌, List, length, decimal, MatchBool, MatchOption, slice_index};
-ghost use Rattle.std.specs.List.{AllByRecursion as All};
+ghost use Rattle.std.specs.List.{AllByRecursion};
 ghost use Rattle.std.specs.Str.Parse.{digits_value};
 ghost use Rattle.lines.specs.Number.{Digit, Begins};
 
@@ -8,7 +8,7 @@ use crate::token::{Token, front};
 
 // The number that one to four digits write.
 fn digits_value(digits: &[u8]) -> u16
-    requires { (length digits.now ≤ 4) × (All Digit digits.now) }
+    requires { (length digits.now ≤ 4) × (AllByRecursion Digit digits.now) }
     ensures { result ≡ digits_value 10 digits.now }
 {
     let mut v: u16 = 0;

@@ -2,7 +2,7 @@
 use Rattle.std.proofs.Common.{◌≡◌, ℕ, ◌+◌, ◌-◌, ◌*◌, ◌^◌, ◌<◌, ◌≤◌, List, [], ◌∷◌, ◌++◌, length, get_or, take, drop, decimal, sym, refl, ap, ◌∙◌, subst, ⊎_elim, arith, take-append-drop}
 use Rattle.std.specs.Str.Parse.{digits_value, digits_value_after}
 use Rattle.std.specs.Char.{digit_value}
-use Rattle.std.specs.List.{AllByRecursion as All}
+use Rattle.std.specs.List.{AllByRecursion}
 use Rattle.std.proofs.lemmas.Fmt.{decimal-digits_value, digits_value-decimal, digits_decimal, decimal_nonempty, first_decimal, decimal_digit, decimal_injective}
 use Rattle.std.proofs.ByRecursion.{All-get_or, All-from_get_or}
 use Rattle.std.proofs.lemmas.Str.Parse.{IsNumeralModel, numerals_by_value, tells_by_index}
@@ -20,7 +20,7 @@ AllDigits ds = (i : ℕ) → i < length ds → Digit (get_or ds i 0)
 own : IsNumeralModel AllDigits (digits_value 10)
 own = numerals_by_value _ tells_by_index
 
-by_index : (ds : List ℕ) → All Digit ds → AllDigits ds
+by_index : (ds : List ℕ) → AllByRecursion Digit ds → AllDigits ds
 by_index ds all i lt = All-get_or Digit ds i 0 lt all
 
 -- more digits write no smaller number
@@ -38,7 +38,7 @@ value_front ds i =
     omega (arith, whole, after_ge (digits_value 10 (take i ds)) (drop i ds))
 
 -- the value with one digit more
-pub value_step : (ds : List ℕ) (i v : ℕ) → All Digit ds → i < length ds → v ≡ digits_value 10 (take i ds) → v * 10 + (get_or ds i 0 - 48) ≡ digits_value 10 (take (i + 1) ds)
+pub value_step : (ds : List ℕ) (i v : ℕ) → AllByRecursion Digit ds → i < length ds → v ≡ digits_value 10 (take i ds) → v * 10 + (get_or ds i 0 - 48) ≡ digits_value 10 (take (i + 1) ds)
 value_step ds i v all lt e = ap (λ (n : ℕ). n * 10 + (get_or ds i 0 - 48)) e ∙ sym (value_next ds i all lt)
 
 -- digits with no leading zero are a number

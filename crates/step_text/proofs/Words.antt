@@ -1,6 +1,6 @@
 -- The name of a kind at the front of a text.
 use Rattle.std.proofs.Common.{◌≡◌, ℕ, ◌<◌, List, [], ◌∷◌, ◌++◌, length, get_or, codes, sym, refl, ap, ◌∙◌, subst, arith, lit≤}
-use Rattle.std.specs.List.{AllByRecursion as All}
+use Rattle.std.specs.List.{AllByRecursion}
 use Rattle.std.proofs.lemmas.List.{append_cancel_left}
 use Rattle.names.proofs.Peel.{Reads, ReadsAt, reads_from}
 use Rattle.lines.specs.Number.{Digit}
@@ -23,7 +23,7 @@ pub word_is : (p s : List ℕ) → length s ≡ length p → ReadsAt s 0 p → s
 word_is p s n h = same_word p s n (reads_from p s (omega (arith, n)) h)
 
 -- a name is made of letters, and has one at least
-letters : (κ : StepKind) → All Letter (step_name (step_code κ))
+letters : (κ : StepKind) → AllByRecursion Letter (step_name (step_code κ))
 letters (StepKind.Gate Kind.X) = ((lit≤ tt, lit≤ tt), tt)
 letters (StepKind.Gate Kind.Y) = ((lit≤ tt, lit≤ tt), tt)
 letters (StepKind.Gate Kind.Z) = ((lit≤ tt, lit≤ tt), tt)

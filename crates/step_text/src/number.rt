@@ -1,6 +1,6 @@
 // Numbers in a step's line: decimal, with no leading zero, up to a limit.
 ghost use Rattle.std.specs.Prelude.{◌≡◌, ℕ, ◌<◌, ◌≤◌, List, length, MatchBool, MatchOption, slice_index};
-ghost use Rattle.std.specs.List.{AllByRecursion as All};
+ghost use Rattle.std.specs.List.{AllByRecursion};
 ghost use Rattle.std.specs.Str.Parse.{digits_value};
 ghost use Rattle.lines.specs.Number.{Digit};
 ghost use Rattle.step_text.specs.Parts.{Begins};
@@ -9,7 +9,7 @@ use lines::{Token, front};
 
 // The number that the digits write, if it is at most `limit`.
 fn digits_value(digits: &[u8], limit: u32) -> Option<u32>
-    requires { All Digit digits.now }
+    requires { AllByRecursion Digit digits.now }
     ensures { MatchOption result (limit < digits_value 10 digits.now) (λ v. (v ≤ limit) × (v ≡ digits_value 10 digits.now)) }
 {
     let mut v: u64 = 0;

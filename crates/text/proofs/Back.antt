@@ -1,14 +1,14 @@
 -- A circuit written out, with comments and empty lines between, is read back.
-use Rattle.std.proofs.Common.{◌≡◌, ℕ, ◌+◌, ◌-◌, ◌<◌, ◌≤◌, Bool, true, false, cond, not, ◌&&◌, eqb, ltb, ◌⊎◌, List, [], ◌∷◌, ◌++◌, map, length, get_or, drop, Ok, Err, codes, Result, sym, refl, ap, ◌∙◌, subst, inl, inr, arith}
-use Rattle.std.specs.List.{AllByRecursion as All}
+use Rattle.std.proofs.Common.{◌≡◌, ℕ, ◌+◌, ◌-◌, ◌<◌, ◌≤◌, Bool, true, false, cond, not, ◌&&◌, eqb, ltb, ◌⊎◌, List, [], ◌∷◌, ◌++◌, map, length, get_or, drop, Ok, Result, sym, refl, ap, ◌∙◌, subst, inl, inr, arith}
+use Rattle.std.specs.List.{AllByRecursion}
 use Rattle.std.proofs.lemmas.List.{append_assoc}
 use Rattle.std.proofs.lemmas.Bool.Decides.{nat_tests}
 use Rattle.rows.specs.declared.refusal.Fault.{Fault}
 use Rattle.rows.specs.declared.row.Gate.{Gate as GateRow}
 use Rattle.rows.specs.declared.kind.Kind.{Kind}
 use Rattle.rows.specs.Kinds.{double, name}
-use Rattle.rows.specs.Steps.{Gate, one, two, kind_of, first_of, second_of, pair_below, fits, row_of_gate, GoodGate}
-use Rattle.lines.specs.Grammar.{heading, line_of, paired, Writes, Within, Doubled}
+use Rattle.rows.specs.Steps.{Gate, one, two, kind_of, pair_below, row_of_gate, GoodGate}
+use Rattle.lines.specs.Grammar.{heading, line_of, Writes, Within, Doubled}
 use Rattle.lines.proofs.Judging.{is_accepted}
 use Rattle.text.specs.declared.circuit.Circuit.{Circuit}
 use Rattle.text.specs.Reading.{onto, lines, skipped, Statement, statements, statements_of, Gates, IsCircuit, room, filled, Reading, OnlyReading}
@@ -17,7 +17,7 @@ use Rattle.text.proofs.FirstLine.{line_then}
 use Rattle.text.proofs.Unique.{reading_same}
 
 -- the lines of lines put together are these lines
-lines_ended : (ls : List (List ℕ)) → All Unbroken ls → lines (ended ls) ≡ ls
+lines_ended : (ls : List (List ℕ)) → AllByRecursion Unbroken ls → lines (ended ls) ≡ ls
 lines_ended [] h = refl
 lines_ended (l ∷ ls) h = ap lines (append_assoc l (10 ∷ []) (ended ls)) ∙ line_then l (ended ls) h.0 ∙ ap (λ k. l ∷ k) (lines_ended ls h.1)
 
@@ -62,7 +62,7 @@ statements_made text ls m = from m.is
         ∙ ap (λ t. statements 1 (lines t)) e ∙ ap (statements 1) (lines_ended ls m.unbroken)
 
 -- empty lines and comments between leave the statements as they are
-statements_spaced : (at : ℕ) (ls ms : List (List ℕ)) → All (λ m. skipped m ≡ false) ms → Spaced ls ms → map (λ s. s.bytes) (statements at ls) ≡ ms
+statements_spaced : (at : ℕ) (ls ms : List (List ℕ)) → AllByRecursion (λ m. skipped m ≡ false) ms → Spaced ls ms → map (λ s. s.bytes) (statements at ls) ≡ ms
 statements_spaced at [] ms h sp = sym sp
 statements_spaced at (l ∷ ls) [] h sp =
     ap (λ b. map (λ s. s.bytes) (cond b (statements (at + 1) ls) (record { number = at; bytes = l } ∷ statements (at + 1) ls))) sp.0
@@ -87,7 +87,7 @@ name_unskipped Kind.Cnot rest = refl
 name_unskipped Kind.Cz rest = refl
 name_unskipped Kind.Crk rest = refl
 
-gates_unskipped : (gs : List Gate) → All (λ m. skipped m ≡ false) (map line_of gs)
+gates_unskipped : (gs : List Gate) → AllByRecursion (λ m. skipped m ≡ false) (map line_of gs)
 gates_unskipped [] = tt
 gates_unskipped (g ∷ gs) = (name_unskipped (kind_of g) _, gates_unskipped gs)
 
@@ -144,7 +144,7 @@ good n (two κ k a b) few h =
       apart = p.2;
     }
 
-gates_written : (n left : ℕ) (ss : List Statement) (gs : List Gate) → n ≤ 64 → All (GoodGate n) gs → length gs ≤ left →
+gates_written : (n left : ℕ) (ss : List Statement) (gs : List Gate) → n ≤ 64 → AllByRecursion (GoodGate n) gs → length gs ≤ left →
     map (λ s. s.bytes) ss ≡ map line_of gs → Gates n left ss gs
 gates_written n left [] [] few h fit e = refl
 gates_written n left [] (g ∷ gs) few h fit e = absurd (omega (arith, ap length e))

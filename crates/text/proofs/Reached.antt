@@ -1,13 +1,13 @@
 -- How far the reader has come among the statements of gates.
-use Rattle.std.proofs.Common.{◌≡◌, ℕ, ◌+◌, ◌-◌, ◌<◌, ◌≤◌, ◌⊎◌, List, [], ◌∷◌, ◌++◌, map, length, take, drop, set, sym, refl, ap, ◌∙◌, subst, inl, inr, arith}
-use Rattle.std.proofs.lemmas.List.{append-nil, append_assoc, length_push, length-map, map_push, set-append_right, drop_more, take_at}
+use Rattle.std.proofs.Common.{◌≡◌, ℕ, ◌+◌, ◌-◌, ◌<◌, ◌≤◌, List, [], ◌∷◌, ◌++◌, map, length, drop, set, sym, refl, ap, ◌∙◌, subst, inl, inr, arith}
+use Rattle.std.proofs.lemmas.List.{append-nil, append_assoc, length_push, length-map, map_push, set-append_right, drop_more}
 use Rattle.rows.specs.declared.refusal.Refusal.{Refusal}
 use Rattle.rows.specs.declared.refusal.Fault.{Fault}
 use Rattle.rows.specs.declared.row.Gate.{Gate as GateRow}
 use Rattle.rows.specs.Steps.{Gate, row_of_gate}
 use Rattle.rows.specs.Refusals.{Accepted, Turned}
-use Rattle.lines.specs.Grammar.{Writes, LineFits, no_row}
-use Rattle.text.specs.Reading.{Statement, StatementFits, Gates, FirstRefused, filled}
+use Rattle.lines.specs.Grammar.{Writes, no_row}
+use Rattle.text.specs.Reading.{Statement, StatementFits, Gates, FirstRefused}
 use Rattle.text.specs.Steps.{Filled}
 
 -- of all statements, rest are left; the gates so far stand first in new, before what old has there,

@@ -1,9 +1,9 @@
 -- The statements of a text, line by line.
-use Rattle.std.proofs.Common.{◌≡◌, ℕ, ◌+◌, ◌<◌, Bool, true, false, cond, eqb, List, [], ◌∷◌, ◌++◌, length, get_or, sym, refl, ap, ◌∙◌, subst, arith}
+use Rattle.std.proofs.Common.{◌≡◌, ℕ, ◌+◌, ◌<◌, true, false, cond, eqb, List, [], ◌∷◌, length, get_or, sym, refl, ap, ◌∙◌, arith}
 use Rattle.std.proofs.lemmas.Bool.Decides.{nat_tests}
 use Rattle.lines.specs.declared.token.Token.{Token}
 use Rattle.lines.specs.Number.{Digit}
-use Rattle.lines.specs.Tokens.{Letter, Longest, Fronts}
+use Rattle.lines.specs.Tokens.{Letter, Fronts}
 use Rattle.lines.proofs.Runs.{longest_first, longest_some}
 use Rattle.text.specs.Reading.{lines, skipped, statements}
 

@@ -1,10 +1,10 @@
 -- The answer to a whole text from what the parts of the reader find.
-use Rattle.std.proofs.Common.{◌≡◌, ℕ, ◌+◌, ◌≤◌, min, ◌⊎◌, List, [], ◌∷◌, ◌++◌, map, length, take, drop, Ok, Err, sym, refl, ap, ◌∙◌, subst, inl, inr, arith}
+use Rattle.std.proofs.Common.{◌≡◌, ℕ, ◌+◌, min, List, [], ◌∷◌, ◌++◌, map, length, take, drop, Ok, Err, sym, refl, ap, ◌∙◌, subst, inl, inr}
 use Rattle.std.proofs.lemmas.List.{length-map, take_at}
 use Rattle.rows.specs.declared.refusal.Fault.{Fault}
 use Rattle.rows.specs.declared.row.Gate.{Gate as GateRow}
-use Rattle.rows.specs.Steps.{Gate, row_of_gate}
-use Rattle.text.specs.Reading.{lines, statements, statements_of, Statement, Gates, FirstRefused, IsCircuit, IsRefused, room, filled, Reading}
+use Rattle.rows.specs.Steps.{row_of_gate}
+use Rattle.text.specs.Reading.{lines, statements, statements_of, Statement, Gates, FirstRefused, IsCircuit, IsRefused, room, Reading}
 use Rattle.text.specs.declared.circuit.Circuit.{Circuit}
 use Rattle.text.specs.Steps.{Headed, NotHeaded, Filled, Found}
 use Rattle.text.specs.Writing.{ReadAs}

@@ -1,6 +1,6 @@
 -- A circuit written out, with comments and empty lines anywhere between, is read back.
 use Rattle.std.specs.Prelude.{◌≡◌, ℕ, ◌≤◌, true, ◌⊎◌, List, [], ◌∷◌, ◌++◌, map, length, Ok, Result}
-use Rattle.std.specs.List.{flat_map, AllByRecursion as All}
+use Rattle.std.specs.List.{flat_map, AllByRecursion}
 use Rattle.rows.specs.declared.refusal.Fault.{Fault}
 use Rattle.rows.specs.declared.row.Gate.{Gate as GateRow}
 use Rattle.rows.specs.Steps.{Gate, row_of_gate, GoodGate}
@@ -16,7 +16,7 @@ Spaced (l ∷ ls) (m ∷ ms) = ((skipped l ≡ true) × Spaced ls (m ∷ ms)) �
 
 -- no byte of the line ends it
 abbrev pub Unbroken : List ℕ → Type 0
-Unbroken l = All (λ b. ¬ (b ≡ 10)) l
+Unbroken l = AllByRecursion (λ b. ¬ (b ≡ 10)) l
 
 -- the lines one after the other, each ended by byte 10
 abbrev pub ended : List (List ℕ) → List ℕ
@@ -24,14 +24,14 @@ ended ls = flat_map (λ l. l ++ 10 ∷ []) ls
 
 -- the text is these lines; the last may lack its byte 10
 pub record MadeOf (text : List ℕ) (ls : List (List ℕ)) : Type 0 where
-  pub unbroken : All Unbroken ls
+  pub unbroken : AllByRecursion Unbroken ls
   pub is : (text ≡ ended ls) ⊎ (text ++ 10 ∷ [] ≡ ended ls)
 
 -- a circuit that fits so many rows
 pub record SmallCircuit (rows n : ℕ) (gs : List Gate) : Type 0 where
   pub some : 1 ≤ n
   pub few : n ≤ 64
-  pub gates : All (GoodGate n) gs
+  pub gates : AllByRecursion (GoodGate n) gs
   pub fit : length gs ≤ rows
 
 -- whenever the text is a circuit written out, with comments and empty lines between, the answer is that circuit, and its rows stand first

@@ -1,4 +1,4 @@
-use Rattle.std.proofs.Common.{arith, rules}
+use Rattle.std.proofs.Common.{rules}
 use Rattle.text.proofs.FirstLine.{Cut, cut_end, cut_middle}
 use Rattle.text.proofs.cutting.first_line.Goals as goal
 use Rattle.text.proofs.cutting.first_line.Goals.{After-split_at}

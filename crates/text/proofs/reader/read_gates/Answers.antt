@@ -1,4 +1,4 @@
-use Rattle.std.proofs.Common.{◌≡◌, ◌-◌, ◌<◌, length, ap, arith}
+use Rattle.std.proofs.Common.{◌≡◌, ◌-◌, arith}
 use Rattle.text.proofs.Reached.{reached_more, row_left, all_filled}
 use Rattle.text.proofs.reader.read_gates.Goals as goal
 
