@@ -1,5 +1,5 @@
 -- Numbers that have a property, counted one by one.
-use Rattle.std.proofs.Common.{◌≡◌, ℕ, zero, suc, ◌+◌, ◌≤◌, ◌⊎◌, sym, subst, inl, inr, add-one, arith}
+use Rattle.std.proofs.Common.{◌≡◌, ℕ, zero, suc, ◌+◌, ◌≤◌, sym, subst, inl, inr, add-one, arith}
 use Rattle.chains.specs.Chained.{Counts}
 
 module _ (P : ℕ → Type 0) (j s m : ℕ) where

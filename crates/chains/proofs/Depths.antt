@@ -1,8 +1,8 @@
 -- The depth of a circuit from the counts of its wires.
-use Rattle.std.proofs.Common.{◌≡◌, ℕ, ◌+◌, ◌<◌, ◌≤◌, min, max, ◌⊎◌, List, [], ◌∷◌, map, length, sym, refl, ap, ◌∙◌, subst, inl, inr, ⊎_elim, arith}
+use Rattle.std.proofs.Common.{◌≡◌, ℕ, ◌+◌, ◌<◌, ◌≤◌, max, ◌⊎◌, List, length, refl, ap, ◌∙◌, inl, inr, ⊎_elim, arith}
 use Rattle.std.proofs.lemmas.Bool.{cases_lt}
 use Rattle.rows.specs.Steps.{Gate}
-use Rattle.machine.specs.Chains.{Within, none, skip, keep, Chain}
+use Rattle.machine.specs.Chains.{Within, none, skip, keep}
 use Rattle.depth.specs.Counts.{largest}
 use Rattle.depth.specs.Longest.{Longest}
 use Rattle.chains.specs.Chained.{Deep}

@@ -1,10 +1,10 @@
 -- A circuit run on a machine, row by row.
-use Rattle.std.proofs.Common.{◌≡◌, ℕ, zero, suc, ◌+◌, ◌<◌, Bool, true, false, List, [], ◌∷◌, ◌++◌, map, length, get_or, take, drop, Some, None, Option, sym, refl, ap, ◌∙◌, subst, arith}
+use Rattle.std.proofs.Common.{◌≡◌, ℕ, zero, suc, ◌+◌, ◌<◌, Bool, true, false, List, [], ◌∷◌, ◌++◌, map, length, get_or, take, drop, Some, None, sym, refl, ap, ◌∙◌, arith}
 use Rattle.std.proofs.lemmas.List.{length-map, map_push, take_more}
 use Rattle.rows.specs.declared.kind.Kind.{Kind}
 use Rattle.rows.specs.declared.row.Gate.{Gate as GateRow}
 use Rattle.rows.specs.Kinds.{coded}
-use Rattle.rows.specs.Steps.{Gate, one, Step, gate, gate_on, when, well_formed, formed, gate_of}
+use Rattle.rows.specs.Steps.{Gate, Step, gate, gate_on, when, well_formed, formed, gate_of}
 use Rattle.machine.specs.Machines.{Acts, act, run}
 use Rattle.chains.specs.Chained.{Decodes}
 

@@ -1,5 +1,5 @@
 -- How deep a circuit is, and which qubits a result can depend on, by chains of its gates.
-use Rattle.std.specs.Prelude.{◌≡◌, ℕ, zero, suc, ◌+◌, ◌<◌, ◌≤◌, Bool, ◌⊎◌, ◌↔◌, List, map, length, Some}
+use Rattle.std.specs.Prelude.{◌≡◌, ℕ, zero, suc, ◌+◌, ◌<◌, ◌≤◌, ◌⊎◌, List, map, length, Some}
 use Rattle.rows.specs.declared.row.Gate.{Gate as GateRow}
 use Rattle.rows.specs.Steps.{Gate, gate_of}
 use Rattle.machine.specs.Chains.{Chain}

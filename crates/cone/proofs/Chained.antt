@@ -1,12 +1,12 @@
 -- Wire j is in the set at wire i exactly when a chain of gates leads from j to i.
-use Rattle.std.proofs.Common.{◌≡◌, ℕ, ◌<◌, ◌≤◌, Bool, true, false, eqb, ◌⊎◌, List, [], ◌∷◌, map, sym, refl, ap, ◌∙◌, subst, inl, inr, ⊎_elim, arith}
+use Rattle.std.proofs.Common.{◌≡◌, ℕ, ◌<◌, ◌≤◌, true, false, eqb, ◌⊎◌, List, [], ◌∷◌, map, sym, refl, ap, ◌∙◌, subst, inl, inr, ⊎_elim, arith}
 use lib.Bits.{bit_or}
 use Rattle.std.proofs.lemmas.Bool.{cases_Bool, cond-true, lt-ltb, eqb-true, or_cases, eq-eqb, or_left, or_right}
 use Rattle.rows.specs.declared.kind.Kind.{Kind}
 use Rattle.rows.specs.Steps.{Gate, one, two, gate, fits, has}
 use Rattle.machine.specs.Machines.{run}
 use Rattle.machine.specs.Local.{Cells, wires, local}
-use Rattle.machine.specs.Chains.{Within, none, skip, keep, Leads, Chain}
+use Rattle.machine.specs.Chains.{Within, none, skip, keep, Leads}
 use Rattle.machine.proofs.OneGate.{gated_unfit, gated_off, keeps_wires, has_below, at_one, at_first, at_second}
 use Rattle.cone.specs.Sets.{cone_rule, own_wires, In}
 use Rattle.cone.specs.Causal.{Causal}

@@ -9,7 +9,7 @@ ghost use Rattle.cells.specs.Tables.{made_of};
 ghost use Rattle.cone.specs.Causal.{Causal};
 ghost use Rattle.cone.specs.Means.{cone_means};
 ghost use Rattle.cone.specs.Sets.{cone_rule, set_of, own_wires};
-ghost use Rattle.std.proofs.Common.{rules};
+ghost use Rattle.std.proofs.Math.Nat.{zero-mod};
 ghost use Rattle.machine.proofs.LocalLaws.{local_lawful};
 
 use cells::{Local, Width, count_wires, fill_cells, gate_cells, read_cell, trade_cells};
@@ -32,7 +32,7 @@ impl Local for Cone {
 
     ghost blank = { 0 };
 
-    ghost zero = { Prim.search rules };
+    ghost zero = { λ n. zero-mod (2 ^ n) };
 
     fn make(width: u8, number: u64) -> u64 {
         if width < 64 {

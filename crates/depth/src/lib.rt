@@ -2,13 +2,12 @@
 
 #![tactic(auto)]
 
-ghost use Rattle.std.specs.Prelude.{◌≡◌, ℕ, min, false};
+ghost use Rattle.std.specs.Prelude.{◌≡◌, ℕ, min, false, refl};
 ghost use Rattle.machine.specs.Local.{Cells, local};
 ghost use Rattle.cells.specs.Tables.{made_of};
 ghost use Rattle.depth.specs.Counts.{depth_rule, count_of, zeros};
 ghost use Rattle.depth.specs.Longest.{CountsChains};
 ghost use Rattle.depth.specs.Means.{depth_means};
-ghost use Rattle.std.proofs.Common.{rules};
 ghost use Rattle.machine.proofs.LocalLaws.{local_lawful};
 
 use cells::{Local, Width, count_wires, fill_cells, gate_cells, read_cell, trade_cells};
@@ -31,7 +30,7 @@ impl Local for Depth {
 
     ghost blank = { 0 };
 
-    ghost zero = { Prim.search rules };
+    ghost zero = { λ _. refl };
 
     fn make(_width: u8, number: u64) -> u32 {
         (number % 0x1_0000_0000) as u32

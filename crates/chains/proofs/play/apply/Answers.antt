@@ -1,4 +1,4 @@
-use Rattle.std.proofs.Common.{◌≡◌, sym, ap, ◌∙◌}
+use Rattle.std.proofs.Common.{ap, ◌∙◌}
 use Rattle.chains.proofs.Playing.{gate_from}
 use Rattle.chains.proofs.play.apply.Goals as goal
 

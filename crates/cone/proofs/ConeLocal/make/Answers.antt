@@ -1,4 +1,4 @@
-use Rattle.std.proofs.Common.{◌≡◌, ◌^◌, ◌<◌, ◌≤◌, sym, mod-eq_of_lt, arith, rules}
+use Rattle.std.proofs.Common.{◌^◌, ◌<◌, ◌≤◌, sym, mod-eq_of_lt, arith}
 use native.Mathlib.Nat.{pow-le-pow_right}
 use Rattle.cone.proofs.ConeLocal.make.Goals as goal
 
