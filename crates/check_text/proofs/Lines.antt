@@ -1,6 +1,6 @@
 -- The lines before the line `steps`.
 use Rattle.std.proofs.Common.{◌≡◌, ℕ, ◌+◌, ◌-◌, ◌<◌, ◌≤◌, ◌⊎◌, List, [], ◌∷◌, ◌++◌, length, get_or, take, drop, codes, sym, refl, ap, ◌∙◌, subst, inl, inr, add-zero, arith, length-append, length-drop, take-append-drop, length-take-le, get_or-drop, get_or-take}
-use Rattle.std.specs.List.{AllByRecursion as All}
+use Rattle.std.specs.List.{AllByRecursion}
 use Rattle.std.proofs.ByRecursion.{All-from_get_or, All-push}
 use Rattle.std.proofs.lemmas.List.{append-nil, append_assoc, nil_from_length, take_rest, take_at, drop_more, flat_map_more}
 use Rattle.text.specs.Reading.{lines}
@@ -38,7 +38,7 @@ module _ (text : List ℕ) (n : ℕ) (line after : List ℕ) (cut : Split text n
       record { unbroken = no_ten; is = inl (whole_is ∙ ap (λ l. line ++ l) (first ∙ ap (λ l. 10 ∷ l) (sym (take_rest after 1)))) }
 
 -- the lines of lines put together are these lines
-lines_ended : (ls : List (List ℕ)) → All Unbroken ls → lines (ended ls) ≡ ls
+lines_ended : (ls : List (List ℕ)) → AllByRecursion Unbroken ls → lines (ended ls) ≡ ls
 lines_ended [] h = refl
 lines_ended (l ∷ ls) h = ap lines (append_assoc l (10 ∷ []) (ended ls)) ∙ line_then l (ended ls) h.0 ∙ ap (λ k. l ∷ k) (lines_ended ls h.1)
 
@@ -60,7 +60,7 @@ lines_first rest line after some f = by f.is
 pub record Passed (input rest : List ℕ) : Type 0 where
   pub ls : List (List ℕ)
   pub none : NoneSteps ls
-  pub unbroken : All Unbroken ls
+  pub unbroken : AllByRecursion Unbroken ls
   pub whole : lines input ≡ ls ++ lines rest
   pub front : 0 < length rest → input ≡ ended ls ++ rest
 

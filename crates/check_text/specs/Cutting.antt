@@ -1,6 +1,6 @@
 -- The part of the input before the line `steps`.
 use Rattle.std.specs.Prelude.{◌≡◌, ℕ, ◌⊎◌, List, [], ◌∷◌, ◌++◌, codes}
-use Rattle.std.specs.List.{AllByRecursion as All}
+use Rattle.std.specs.List.{AllByRecursion}
 use Rattle.text.specs.Reading.{lines}
 use Rattle.text.specs.Writing.{Unbroken}
 
@@ -11,7 +11,7 @@ pub record FirstLine (text line after : List ℕ) : Type 0 where
 
 -- none of the lines is `steps`
 abbrev pub NoneSteps : List (List ℕ) → Type 0
-NoneSteps ls = All (λ l. ¬ (l ≡ codes "steps")) ls
+NoneSteps ls = AllByRecursion (λ l. ¬ (l ≡ codes "steps")) ls
 
 -- before comes before a line `steps` of the input, and after comes after that line; the line may lack its byte 10 if nothing does
 pub record Divided (input before after : List ℕ) : Type 0 where

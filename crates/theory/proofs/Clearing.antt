@@ -1,7 +1,7 @@
 -- Steps clear a plan if and only if no lawful machine can tell them from the circuit.
 use Rattle.std.proofs.Common.{◌≡◌, ℕ, suc, ◌+◌, ◌<◌, ◌≤◌, Bool, true, false, List, [], ◌∷◌, ◌++◌, map, length, get_or, set, replicate, sym, refl, ap, ◌∙◌, subst, ap₂, append_assoc, append-nil, arith}
 use lib.ListN.{length-map}
-use Rattle.std.specs.List.{AllByRecursion as All}
+use Rattle.std.specs.List.{AllByRecursion}
 use Rattle.std.proofs.lemmas.List.{get_or-map, length_push, map_push}
 use Rattle.rows.specs.declared.kind.Kind.{Kind}
 use Rattle.rows.specs.declared.row.Step.{Step as StepRow}
@@ -139,7 +139,7 @@ first_fit : (p : Plan) → GoodPlan p → (gs : List Gate) → AllFit (length p.
 first_fit p good [] fs = tt
 first_fit p good (g ∷ gs) fs = (fits_first p good p.chart.wires (omega arith) g fs.0, first_fit p good gs fs.1)
 
-rules_good : (c : Chart) (rows : List StepRow) (ts : List Step) (free : List ℕ) → InRules c free rows ts → All (GoodStep c.wires) ts
+rules_good : (c : Chart) (rows : List StepRow) (ts : List Step) (free : List ℕ) → InRules c free rows ts → AllByRecursion (GoodStep c.wires) ts
 rules_good c [] [] free r = tt
 rules_good c [] (t ∷ ts) free none = absurd none
 rules_good c (r ∷ rs) [] free none = absurd none
@@ -154,7 +154,7 @@ recorder_decides p good rows ts rules few e =
     (λ w. same_on p.chart.wires good.not_many (pulled ts) (map (at p.first) p.gates) (pulled_fit p.chart.wires ts shaped) (first_fit p good p.gates (plan_fits p good)) records w ∙
     ap (on w) (sym (open_first p.gates (at p.first))))
   where
-    shaped : All (GoodStep p.chart.wires) ts
+    shaped : AllByRecursion (GoodStep p.chart.wires) ts
     shaped = rules_good p.chart rows ts (fresh p).free rules
 
     records : run recorder (map gate (pulled ts)) (blank p.chart.wires) ≡ run recorder (map gate (map (at p.first) p.gates)) (blank p.chart.wires)

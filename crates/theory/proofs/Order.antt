@@ -2,7 +2,7 @@
 use Rattle.std.proofs.Common.{◌≡◌, ℕ, zero, suc, ◌<◌, ◌≤◌, Bool, true, false, ◌||◌, eqb, List, [], ◌∷◌, ◌++◌, length, get_or, set, sym, refl, ap, ◌∙◌, le_of_suc-le-suc, not-suc-le-zero, arith}
 use mathlib.Core.Bool.{or-true}
 use lib.Dec.{eqb-suc-suc, eqb-zero-suc, eqb-suc-zero}
-use Rattle.std.specs.List.{AllByRecursion as All}
+use Rattle.std.specs.List.{AllByRecursion}
 use Rattle.std.proofs.ByRecursion.{All-from_get_or}
 use Rattle.std.proofs.lemmas.Bool.{true≢false}
 use Rattle.rows.specs.declared.kind.Kind.{Kind}
@@ -27,7 +27,7 @@ run_append m (t ∷ ts) ss u = run_append m ts ss (act m t u)
 
 -- the gates fit n places
 abbrev pub AllFit : ℕ → List Gate → Type 0
-AllFit n = All (λ g. fits n g ≡ true)
+AllFit n = AllByRecursion (λ g. fits n g ≡ true)
 
 -- the gate of a number
 abbrev pub number : List Gate → ℕ → Gate

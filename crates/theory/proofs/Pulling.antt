@@ -1,6 +1,6 @@
 -- Steps as gates alone and then exchanges alone.
 use Rattle.std.proofs.Common.{◌≡◌, ℕ, true, List, [], ◌∷◌, map, sym, refl, ap, ◌∙◌, ap₂}
-use Rattle.std.specs.List.{AllByRecursion as All}
+use Rattle.std.specs.List.{AllByRecursion}
 use Rattle.rows.specs.Steps.{Gate, one, two, Step, gate, swap, pair_below, relabel, trade, GoodStep}
 use Rattle.machine.specs.Machines.{Acts, Lawful, run, exchanges}
 use Rattle.machine.proofs.Trading.{trade_trade, fits_trade}
@@ -20,7 +20,7 @@ traded_fit : (n a b : ℕ) → pair_below n a b ≡ true → (gs : List Gate) �
 traded_fit n a b h [] fs = tt
 traded_fit n a b h (g ∷ gs) fs = (fits_trade n a b g h fs.0, traded_fit n a b h gs fs.1)
 
-pub pulled_fit : (n : ℕ) (ts : List Step) → All (GoodStep n) ts → AllFit n (pulled ts)
+pub pulled_fit : (n : ℕ) (ts : List Step) → AllByRecursion (GoodStep n) ts → AllFit n (pulled ts)
 pulled_fit n [] s = tt
 pulled_fit n (gate g ∷ ts) s = (s.0.fitting, pulled_fit n ts s.1)
 pulled_fit n (swap a b ∷ ts) s = traded_fit n a b s.0 (pulled ts) (pulled_fit n ts s.1)
@@ -35,7 +35,7 @@ module _ {State : Type 0} (m : Acts State) (law : Lawful m) where
       before_exchange n a b h gs fs.1 (m.gated (relabel (trade a b) g) v) (law.wide_gated _ v ∙ w)
 
   -- the gates, each where its qubits were at first, and then the exchanges
-  pub before_exchanges : (n : ℕ) (ts : List Step) → All (GoodStep n) ts → (v : State) → m.wide v ≡ n →
+  pub before_exchanges : (n : ℕ) (ts : List Step) → AllByRecursion (GoodStep n) ts → (v : State) → m.wide v ≡ n →
       run m ts v ≡ run m (exchanges ts) (run m (map gate (pulled ts)) v)
   before_exchanges n [] s v w = refl
   before_exchanges n (gate g ∷ ts) s v w = before_exchanges n ts s.1 (m.gated g v) (law.wide_gated g v ∙ w)

@@ -1,7 +1,7 @@
 -- The kept steps do what the done gates and the kept exchanges do.
 use Rattle.std.proofs.Common.{◌≡◌, ℕ, ◌<◌, ◌≤◌, Bool, true, false, eqb, ◌⊎◌, List, [], ◌∷◌, ◌++◌, length, get_or, set, replicate, sym, refl, ap, ◌∙◌, subst, ap₂, inl, inr, append_assoc, append-nil, arith}
 use lib.ListN.{get_or-replicate, length-map}
-use Rattle.std.specs.List.{AllByRecursion as All}
+use Rattle.std.specs.List.{AllByRecursion}
 use Rattle.std.proofs.ByRecursion.{All-push}
 use Rattle.std.proofs.lemmas.List.{map_push}
 use Rattle.std.proofs.lemmas.Bool.{false≢true, or_cases, or_parts, eqb-true}
@@ -46,7 +46,7 @@ none_done (g ∷ gs) = none_done gs
 module _ {State : Type 0} (m : Acts State) (law : Lawful m) where
   -- a gate at the places moved by exchanges, after these, is the gate at the places before them
   through : (n : ℕ) (ks : List Step) (q : List ℕ) (g : Gate) (v : State) → fits (length q) g ≡ true → fits n (at q g) ≡ true →
-      All (GoodStep n) ks → n ≤ m.wide v →
+      AllByRecursion (GoodStep n) ks → n ≤ m.wide v →
       m.gated (at (moved ks q) g) (run m (exchanges ks) v) ≡ run m (exchanges ks) (m.gated (at q g) v)
   through n [] q g v f f' s w = refl
   through n (gate e ∷ ks) q g v f f' s w = through n ks q g v f f' s.1 w
@@ -66,7 +66,7 @@ module _ {State : Type 0} (m : Acts State) (law : Lawful m) where
 -- an earlier one that shares a qubit with it, and the steps do what the done gates and then the exchanges do
 record Stands (p : Plan) (steps : List Step) (places : List ℕ) (done : List Bool) : Type 1 where
   placed : places ≡ moved steps p.first
-  shaped : All (GoodStep p.chart.wires) steps
+  shaped : AllByRecursion (GoodStep p.chart.wires) steps
   ordered : (i j : ℕ) → i < j → j < length p.gates → get_or done i true ≡ false → get_or done j true ≡ true →
       shares (gate_number p i) (gate_number p j) ≡ false
   follows : (State : Type 0) (m : Acts State) → Lawful m → (u : State) → p.chart.wires ≤ m.wide u →
