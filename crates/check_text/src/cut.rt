@@ -32,7 +32,7 @@ fn first_line(text: &[u8]) -> (&[u8], &[u8])
 pub(crate) fn is_steps(line: &[u8]) -> bool
     ensures { Decides result (line.now ≡ codes "steps") }
 {
-    line == b"steps"
+    line == b"steps".as_slice()
 }
 
 /// The circuit's text: all before the first line that is `steps`, or all of the input where no line is.

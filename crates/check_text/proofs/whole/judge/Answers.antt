@@ -4,13 +4,13 @@ use Rattle.check_text.specs.Stepping.{ReadsSteps, ReadAs}
 use Rattle.check_text.proofs.Judging.{all_offered}
 use Rattle.check_text.proofs.whole.judge.Goals as goal
 
-pub returns-in_ok-out : goal.returns-in_ok-out
-returns-in_ok-out c l h =
+pub returns-in_ok-out-in-Read : goal.returns-in_ok-out-in-Read
+returns-in_ok-out-in-Read c l h =
     let s = subst (ReadsSteps c.args.input.now) c.in-Read.is c.in_ok-trials.ensures in
     let long : length c.audit-cleared.new.trials ≡ c.in-Read.trials.len = omega arith in
     all_offered c.args.book c.audit-cleared.new.book _ _ s.0 c.deref_mut.result.now c.audit-cleared.new.trials c.deref.result.now c.audit-cleared.result
     s.1 (subst (ReadAs s.0) (sym c.deref_mut.ensures.value) s.2) c.audit-cleared.ensures.plays c.audit-cleared.ensures.clears
-    (c.deref.ensures.value ∙ take_at _ _ _ long) c.in_ok-out.ensures l h
+    (c.deref.ensures.value ∙ take_at _ _ _ long) c.in_ok-out-in-Read.ensures l h
 
 pub returns-in-Unreadable : goal.returns-in-Unreadable
 returns-in-Unreadable c l h =

@@ -1,6 +1,5 @@
-use Rattle.std.proofs.Common.{◌≡◌, vec_items, ◌∙◌}
+use Rattle.std.proofs.Common.{◌∙◌}
 use Rattle.std.proofs.lemmas.Result.{IfOk-weaker}
-use Rattle.check_text.specs.Replies.{in_order}
 use Rattle.check_text.proofs.Judging.{refused_so, judged_so}
 use Rattle.check_text.proofs.whole.lay_and_judge.Goals as goal
 
