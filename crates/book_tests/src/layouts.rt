@@ -754,20 +754,26 @@ pub static LAID: [Case; 9] = [
     },
 ];
 
-fn check_case(rt: &impl Abort, heap: Global, case: &Case) -> Result<(), Fail> {
+fn check_case(
+    rt: &impl Abort,
+    heap: Global,
+    what: &str,
+    n: usize,
+    case: &Case,
+) -> Result<(), Fail> {
     let (number, place) = match try_lay(heap, &case.layout)? {
         Ok(_) => (0, 0),
         Err(fault) => (fault.number(), fault.place),
     };
-    assert_eq!(rt; number, case.number);
-    assert_eq!(rt; place, case.place);
+    assert_eq!(rt; number, case.number, "case {n} of {what}");
+    assert_eq!(rt; place, case.place, "case {n} of {what}");
     Ok(())
 }
 
-fn check_cases(rt: &impl Abort, heap: Global, cases: &[Case]) -> Result<(), Fail> {
+fn check_cases(rt: &impl Abort, heap: Global, what: &str, cases: &[Case]) -> Result<(), Fail> {
     let mut n = 0usize;
     for case in cases {
-        check_case(rt, heap, case).note(format_args!("case {n}"))?;
+        check_case(rt, heap, what, n, case)?;
         n = n.wrapping_add(1);
     }
     Ok(())
@@ -775,9 +781,9 @@ fn check_cases(rt: &impl Abort, heap: Global, cases: &[Case]) -> Result<(), Fail
 
 #[test]
 fn cases(rt: HostRuntime) -> Result<(), Fail> {
-    check_cases(&rt, rt.alloc(), &CHIPS).note("of chips")?;
-    check_cases(&rt, rt.alloc(), &PLACES).note("of places")?;
-    check_cases(&rt, rt.alloc(), &GATES).note("of gates")?;
-    check_cases(&rt, rt.alloc(), &MACHINES).note("of machines")?;
-    check_cases(&rt, rt.alloc(), &LAID).note("of those laid")
+    check_cases(&rt, rt.alloc(), "chips", &CHIPS)?;
+    check_cases(&rt, rt.alloc(), "places", &PLACES)?;
+    check_cases(&rt, rt.alloc(), "gates", &GATES)?;
+    check_cases(&rt, rt.alloc(), "machines", &MACHINES)?;
+    check_cases(&rt, rt.alloc(), "those laid", &LAID)
 }

@@ -187,7 +187,12 @@ pub(crate) fn check_offer(
     offers: &[(Row, Answer)],
 ) -> Result<(), Fail> {
     let step = step_of(row);
-    assert_eq!(rt; judged(book, step), answer);
+    let Row(start, kind, first, second, k) = row;
+    assert_eq!(rt;
+        judged(book, step),
+        answer,
+        "start {start}, kind {kind}, wires {first} {second}, k {k}"
+    );
     if let Answer::Refused(_, _) = answer {
         check_refused(rt, heap, book, step, answer, offers)
     } else {
@@ -203,10 +208,7 @@ pub(crate) fn check_offers(
     offers: &[(Row, Answer)],
 ) -> Result<(), Fail> {
     for (row, answer) in offers {
-        let Row(start, kind, first, second, k) = *row;
-        check_offer(rt, heap, book, *row, *answer, offers).note(format_args!(
-            "start {start}, kind {kind}, wires {first} {second}, k {k}"
-        ))?;
+        check_offer(rt, heap, book, *row, *answer, offers)?;
     }
     Ok(())
 }

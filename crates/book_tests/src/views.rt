@@ -173,11 +173,20 @@ pub static STAGES: [Stage; 6] = [
     },
 ];
 
-fn check_stage(rt: &impl Abort, heap: Global, book: &mut Book, stage: &Stage) -> Result<(), Fail> {
+fn check_stage(
+    rt: &impl Abort,
+    heap: Global,
+    n: usize,
+    book: &mut Book,
+    stage: &Stage,
+) -> Result<(), Fail> {
     check_offers(rt, heap, book, stage.offers)?;
-    assert!(rt; looks_of(heap, book, 7)?.as_slice() == stage.looks);
-    assert_eq!(rt; book.lowest_open(), stage.lowest);
-    assert_eq!(rt; cleared(book), stage.end);
+    assert!(rt;
+        looks_of(heap, book, 7)?.as_slice() == stage.looks,
+        "stage {n}"
+    );
+    assert_eq!(rt; book.lowest_open(), stage.lowest, "stage {n}");
+    assert_eq!(rt; cleared(book), stage.end, "stage {n}");
     Ok(())
 }
 
@@ -186,7 +195,7 @@ fn stages(rt: HostRuntime) -> Result<(), Fail> {
     let mut book = lay(rt.alloc(), &STAGED)?;
     let mut n = 0usize;
     for stage in STAGES.iter() {
-        check_stage(&rt, rt.alloc(), &mut book, stage).note(format_args!("stage {n}"))?;
+        check_stage(&rt, rt.alloc(), n, &mut book, stage)?;
         n = n.wrapping_add(1);
     }
     Ok(())

@@ -1,10 +1,11 @@
 // What the tests share.
 use check_text::{Reply, reply};
 use shipped::chip_named;
-use std::test::*;
+use std::process::Abort;
+use std::test::Fail;
 
 // The reply to an input on the chip of this name.
-fn reply_on(rt: &HostRuntime, chip: &str, input: &[u8]) -> Result<Reply, Fail> {
+fn reply_on(rt: &impl AllocGlobal, chip: &str, input: &[u8]) -> Result<Reply, Fail> {
     let Some(chip) = chip_named(chip) else {
         return Err(Fail::new("no such chip"));
     };
@@ -13,14 +14,14 @@ fn reply_on(rt: &HostRuntime, chip: &str, input: &[u8]) -> Result<Reply, Fail> {
 
 // The reply on the chip of this name is these lines.
 pub(crate) fn check_lines(
-    rt: &HostRuntime,
+    rt: &(impl Abort + AllocGlobal),
     chip: &str,
     input: &[u8],
     expected: &str,
 ) -> Result<(), Fail> {
     match reply_on(rt, chip, input)? {
         Reply::Lines(lines) => {
-            assert!(lines.as_str() == expected);
+            assert!(rt; lines.as_str() == expected);
             Ok(())
         },
         Reply::Unreadable(_) => Err(Fail::new("a line is unreadable")),
@@ -28,11 +29,15 @@ pub(crate) fn check_lines(
 }
 
 // The first unreadable line of an input, on the square chip, is this one.
-pub(crate) fn check_stops(rt: &HostRuntime, input: &[u8], expected: usize) -> Result<(), Fail> {
+pub(crate) fn check_stops(
+    rt: &(impl Abort + AllocGlobal),
+    input: &[u8],
+    expected: usize,
+) -> Result<(), Fail> {
     match reply_on(rt, "square", input)? {
         Reply::Lines(_) => Err(Fail::new("no line is unreadable")),
         Reply::Unreadable(line) => {
-            assert_eq!(line, expected);
+            assert_eq!(rt; line, expected);
             Ok(())
         },
     }
