@@ -1,10 +1,9 @@
 -- On two bits three cnots are an exchange.
-use mathlib.Core.Bool.{Bool, true, false}
-use mathlib.Core.Path.{◌≡◌, refl}
+use Rattle.std.proofs.Common.{◌≡◌, Bool, true, false, refl}
 use Rattle.machine.specs.Machines.{HasTrueCnot}
 use Rattle.machine.specs.Local.{differ, local}
 use Rattle.machine.proofs.LocalLaws.{local_lawful}
-use Rattle.machine.proofs.Crossing.{Pair, CrossesCells, crossing}
+use Rattle.machine.proofs.Crossing.{CrossesCells, crossing}
 use Rattle.bits.specs.Flips.{bits_rule}
 
 -- the first of two bits, once it has been added to the second, and that to it, is the second

@@ -1,8 +1,6 @@
 -- The rule of Bits: a bit a wire.
 use Rattle.std.specs.Prelude.{Bool, true, false, not, ℕ, ◌%◌, eqb}
 use Rattle.rows.specs.declared.kind.Kind.{Kind}
-use Rattle.machine.specs.declared.local.Single.{Single}
-use Rattle.machine.specs.declared.local.Double.{Double}
 use Rattle.machine.specs.Local.{Rule, Cells, differ}
 
 -- Bits knows x and cnot

@@ -2,13 +2,12 @@
 
 #![tactic(auto)]
 
-ghost use Rattle.std.specs.Prelude.{◌≡◌, Bool, false, min};
+ghost use Rattle.std.specs.Prelude.{◌≡◌, Bool, false, min, refl};
 ghost use Rattle.machine.specs.Local.{Cells, local};
 ghost use Rattle.machine.specs.Machines.{HasTrueCnot};
 ghost use Rattle.cells.specs.Tables.{made_of};
 ghost use Rattle.bits.specs.Flips.{bits_rule, bit_of, all_clear};
 ghost use Rattle.bits.specs.Means.{bits_means};
-ghost use Rattle.std.proofs.Common.{rules};
 ghost use Rattle.machine.proofs.LocalLaws.{local_lawful};
 
 use cells::{Local, Width, count_wires, fill_cells, gate_cells, read_cell, trade_cells};
@@ -31,7 +30,7 @@ impl Local for Bits {
 
     ghost blank = { false };
 
-    ghost zero = { Prim.search rules };
+    ghost zero = { λ _. refl };
 
     fn make(_width: u8, number: u64) -> bool {
         number % 2 == 1

@@ -1,17 +1,17 @@
 -- Every gate that Pauli does is conjugation by the gate's matrix: one computed table.
-use Rattle.std.proofs.Common.{◌≡◌, ℕ, Bool, true, false, cond, ◌&&◌, sym, refl, ap, ◌∙◌, subst, subst₂, arith}
+use Rattle.std.proofs.Common.{◌≡◌, ℕ, Bool, true, false, cond, ◌&&◌, sym, refl, ◌∙◌, subst, arith}
 use Rattle.std.proofs.lemmas.Bool.{and_parts, cond-true}
 use Rattle.std.proofs.lemmas.Bool.Decides.{nat_tests}
 use Rattle.rows.specs.declared.kind.Kind.{Kind}
 use Rattle.rows.specs.Kinds.{double}
 use Rattle.rows.specs.Steps.{Gate, one, two, kind_of, fits}
-use Rattle.machine.specs.Local.{Cells, differ, wires, worked, local}
+use Rattle.machine.specs.Local.{Cells, differ, wires, local}
 use Rattle.machine.proofs.LocalLaws.{does}
 use Rattle.machine.proofs.OneGate.{gated_off, at_one, at_first, at_second}
 use Rattle.pauli.specs.declared.Letter.{Letter}
-use Rattle.pauli.specs.Letters.{letter, pauli_rule, pauli_known, on_one, on_two}
+use Rattle.pauli.specs.Letters.{pauli_rule, pauli_known, on_one, on_two}
 use Rattle.pauli.specs.Matrices.{Matrix, ◌·◌, ◌⊗◌, dagger, scaled, signed, matrix_of, unitary, norm}
-use Rattle.pauli.specs.Conjugation.{Turns, Conjugated, Conjugates, operator}
+use Rattle.pauli.specs.Conjugation.{Turns, Conjugates, operator}
 use Rattle.pauli.proofs.Tests.{every, every_at, same, sound_same, kinds, all_kinds, letters, all_letters, signs, all_signs}
 
 turns : Kind → Matrix → Matrix → Bool

@@ -3,7 +3,7 @@ use Rattle.std.proofs.Common.{◌≡◌, Bool, true, false, not, ◌&&◌, refl,
 use Rattle.machine.specs.Machines.{HasTrueCnot}
 use Rattle.machine.specs.Local.{differ, local}
 use Rattle.machine.proofs.LocalLaws.{local_lawful}
-use Rattle.machine.proofs.Crossing.{Pair, CrossesCells, crossing}
+use Rattle.machine.proofs.Crossing.{CrossesCells, crossing}
 use Rattle.pauli.specs.Letters.{pauli_rule, letter}
 
 -- the first of two bits, once it has been added to the second, and that to it, is the second

@@ -2,7 +2,7 @@
 
 #![tactic(auto)]
 
-ghost use Rattle.std.specs.Prelude.{◌≡◌, min, false};
+ghost use Rattle.std.specs.Prelude.{◌≡◌, min, false, refl};
 ghost use Rattle.rows.specs.declared.kind.Kind.{Kind};
 ghost use Rattle.machine.specs.Local.{Cells, local};
 ghost use Rattle.machine.specs.Machines.{HasTrueCnot};
@@ -11,7 +11,6 @@ ghost use Rattle.pauli.specs.declared.Letter.{Letter};
 ghost use Rattle.pauli.specs.Conjugation.{Conjugates};
 ghost use Rattle.pauli.specs.Letters.{pauli_rule, on_two, bit, letter, letter_of, identity};
 ghost use Rattle.pauli.specs.Means.{pauli_means};
-ghost use Rattle.std.proofs.Common.{rules};
 ghost use Rattle.machine.proofs.LocalLaws.{local_lawful};
 
 use cells::{Local, Width, count_wires, fill_cells, gate_cells, read_cell, trade_cells};
@@ -48,7 +47,7 @@ impl Local for Pauli {
 
     ghost blank = { letter false false };
 
-    ghost zero = { Prim.search rules };
+    ghost zero = { λ _. refl };
 
     fn make(_width: u8, number: u64) -> Letter {
         Letter {

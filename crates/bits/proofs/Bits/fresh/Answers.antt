@@ -1,6 +1,4 @@
-use mathlib.Core.Bool.{false}
-use mathlib.Core.Path.{◌∙◌}
-use Prim.Native.Nat.{min}
+use Rattle.std.proofs.Common.{min, false, ◌∙◌}
 use Rattle.cells.proofs.Entries.{made_empty}
 use Rattle.bits.specs.Flips.{bit_of}
 use Rattle.bits.proofs.Bits.fresh.Goals as goal

@@ -1,5 +1,4 @@
-use mathlib.Core.Bool.{false}
-use mathlib.Core.Path.{◌∙◌, refl}
+use Rattle.std.proofs.Common.{false, refl, ◌∙◌}
 use Rattle.cells.proofs.Entries.{made_wide}
 use Rattle.bits.specs.Flips.{bit_of}
 use Rattle.bits.proofs.ThreeCnots.{bits_true_cnot}

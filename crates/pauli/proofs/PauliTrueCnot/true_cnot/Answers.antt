@@ -5,5 +5,5 @@ use Rattle.pauli.proofs.PauliTrueCnot.true_cnot.Goals as goal
 pub returns : goal.returns
 returns c = record {
   knows = pauli_true_cnot.knows_cnot (pauli_means c.args.self.now);
-  crosses = pauli_true_cnot.exchange c.args.-a.0 c.args.-b.0 (pauli_means c.args.self.now);
+  crosses = pauli_true_cnot.exchange c.args._a.0 c.args._b.0 (pauli_means c.args.self.now);
 }
