@@ -1,14 +1,14 @@
 -- The report on a whole text from its reading.
-use Rattle.std.proofs.Common.{◌≡◌, ℕ, ◌-◌, ◌<◌, ◌≤◌, min, List, [], ◌∷◌, ◌++◌, map, length, take, drop, IfOk, Ok, Err, codes, Result, sym, refl, ap, ◌∙◌, subst, arith}
+use Rattle.std.proofs.Common.{◌≡◌, ℕ, ◌-◌, ◌≤◌, List, [], ◌∷◌, map, length, take, drop, IfOk, Ok, Err, Result, sym, ap, ◌∙◌, subst, arith}
 use Rattle.std.proofs.lemmas.List.{length-map, take_at}
 use Rattle.rows.specs.declared.refusal.Fault.{Fault}
 use Rattle.rows.specs.declared.row.Gate.{Gate as GateRow}
 use Rattle.rows.specs.Steps.{Gate, gate_of, row_of_gate}
 use Rattle.text.specs.declared.circuit.Circuit.{Circuit}
-use Rattle.text.specs.Reading.{Statement, statements_of, IsCircuit, IsRefused, room, filled, Reading}
+use Rattle.text.specs.Reading.{Statement, statements_of, IsCircuit, IsRefused, room, Reading}
 use Rattle.text.proofs.Decoding.{circuit_fits, circuit_decodes}
 use Rattle.chains.specs.Chained.{Decodes}
-use Rattle.report.specs.Report.{Shows, refusal_line, Reports, too_long, circuit, refused}
+use Rattle.report.specs.Report.{Shows, refusal_line, Reports, circuit, refused}
 
 pub made_so : {X E : Type 0} (r : Result X E) (P Q : X → Type 0) → ((x : X) → P x → Q x) → IfOk r P → IfOk r Q
 made_so (Ok x) P Q f h = f x h

@@ -1,4 +1,4 @@
-use Rattle.std.proofs.Common.{◌≡◌, take, count_by, sym, ap, ◌∙◌}
+use Rattle.std.proofs.Common.{count_by, sym, ap, ◌∙◌}
 use Rattle.std.proofs.lemmas.List.{take_all}
 use Rattle.rows.specs.Steps.{gate_of}
 use Rattle.report.specs.Features.{marked}

@@ -1,4 +1,4 @@
-use Rattle.std.proofs.Common.{◌≡◌, ◌++◌, length, string_bytes, codes, ap, ◌∙◌}
+use Rattle.std.proofs.Common.{◌++◌, length, string_bytes, codes, ap, ◌∙◌}
 use Rattle.std.specs.List.{flat_map}
 use Rattle.report.specs.declared.feature.Feature.{Feature}
 use Rattle.report.specs.Features.{counted}

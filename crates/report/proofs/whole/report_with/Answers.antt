@@ -1,5 +1,4 @@
-use Rattle.std.proofs.Common.{◌≡◌, string_bytes, arith}
-use Rattle.report.specs.Report.{Reports}
+use Rattle.std.proofs.Common.{string_bytes, arith}
 use Rattle.report.proofs.FromReading.{made_so, reports_same, rows_fit, rows_decode, circuit_reported, circuit_small, refusal_reported}
 use Rattle.report.proofs.whole.report_with.Goals as goal
 
