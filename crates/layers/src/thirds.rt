@@ -1,6 +1,5 @@
 // Exchange as three cnots.
 ghost use Rattle.std.specs.Prelude.{◌≡◌};
-ghost use Rattle.std.proofs.Common.{rules};
 
 use machine::{Machine, TrueCnot};
 use rows::{Kind, Wire};
@@ -27,7 +26,7 @@ impl<M: TrueCnot> Machine for Thirds<M> {
 
     ghost acts = { M.Machine.acts };
 
-    ghost lawful = { Prim.search rules };
+    ghost lawful = { M.Machine.lawful };
 
     fn width(&self) -> u8 {
         self.below.width()

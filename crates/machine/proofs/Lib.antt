@@ -1,4 +1,5 @@
 pub mod Trading
+pub mod Renamed
 pub mod LocalLaws
 pub mod OneGate
 pub mod Crossing

@@ -1,8 +1,8 @@
 -- The worked cases hold.
-use Rattle.std.proofs.Common.{◌≡◌, ℕ, Bool, true, false, cond, not, ◌&&◌, ltb, List, [], ◌∷◌, sym, refl, ap, ◌∙◌}
+use Rattle.std.proofs.Common.{◌≡◌, ℕ, Bool, true, false, not, ltb, refl, ap, ◌∙◌}
 use Rattle.rows.specs.declared.kind.Kind.{Kind}
 use Rattle.rows.specs.Steps.{one, two, pair_below}
-use Rattle.machine.specs.Local.{Cells, differ, wires, local}
+use Rattle.machine.specs.Local.{Cells, differ, wires}
 use Rattle.machine.proofs.LocalLaws.{does}
 use Rattle.machine.proofs.OneGate.{at_one, at_first, at_second}
 use Rattle.pauli.specs.declared.Letter.{Letter}

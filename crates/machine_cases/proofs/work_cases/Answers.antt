@@ -1,4 +1,3 @@
-use Rattle.std.proofs.Common.{rules}
 use Rattle.machine_cases.proofs.Worked.{machine_cases}
 use Rattle.machine_cases.proofs.work_cases.Goals as goal
 

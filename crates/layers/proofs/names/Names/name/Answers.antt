@@ -1,4 +1,4 @@
-use Rattle.std.proofs.Common.{◌≡◌, ◌≤◌, length, ◌∙◌, ⊎_elim, arith, rules}
+use Rattle.std.proofs.Common.{◌≤◌, length, ◌∙◌, ⊎_elim, arith, rules}
 use Rattle.layers.proofs.OneToOne.{name_front, name_none}
 use Rattle.layers.proofs.names.Names.name.Goals as goal
 

@@ -1,4 +1,4 @@
-use Rattle.std.proofs.Common.{◌≡◌, ◌<◌, ◌≤◌, length, take, arith, rules}
+use Rattle.std.proofs.Common.{◌≡◌, ◌<◌, ◌≤◌, length, arith, rules}
 use Rattle.std.specs.List.{swap}
 use Rattle.layers.proofs.OneToOne.{patched}
 use Rattle.layers.proofs.names.Names.patch.Goals as goal
@@ -12,7 +12,7 @@ invariant_of-self c =
     let g : c.args.b.0 < n = omega arith in
     let e : c.trade.new.table ≡ swap xs c.args.a.0 c.args.b.0 = c.trade.ensures.traded (omega arith) (omega arith) in
     let t = patched n xs c.trade.new.table c.args.a.0 c.args.b.0 le f g e c.args.self.now.inside c.args.self.now.once in
-    (t.0, (t.1, tt))
+    record { inside = t.0; once = t.1 }
 
 pub returns-then-b-wires : goal.returns-then-b-wires
 returns-then-b-wires c =
