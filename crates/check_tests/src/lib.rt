@@ -3,7 +3,7 @@
 #![tactic(auto)]
 
 #[cfg(test)]
-mod lines;
+mod replies;
 #[cfg(test)]
 mod stops;
 #[cfg(test)]
