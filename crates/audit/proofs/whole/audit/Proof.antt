@@ -12,8 +12,8 @@ use Rattle.audit.proofs.whole.audit.Lts as lts
 use Rattle.audit.proofs.whole.audit.Reads as reads
 use Rattle.audit.proofs.whole.audit.Tie as tie
 
-play-requires : tie.Need-play-requires
-play-requires c κs = search rules
+play_requires : tie.Need-play-requires
+play_requires c κs = search rules
 
 -- a lent slice keeps its length
 shape_of-trials : tie.Need-shape_of-trials
@@ -30,4 +30,4 @@ audit_spec {M} 𝓤 𝓛 𝓜 𝓡 w =
     (code.unfolded 𝓤 𝓛.H 𝓜 𝓡 w) (λ κs a g. tt) (λ κs. reads.owns κs wd)
     (λ κs a g r ws ft p q. held wd _ (audited _ _ _ _ r q.0 q.1))
     (λ g. Written.at_code 𝓤 𝓛.H _ _ lts.function code.function tie.same_locals tie.same_body _
-    (tie.spec play-requires shape_of-trials returns 𝓤 𝓛 (Over 𝓛 𝓜 𝓡 𝓡.env) (tie.known-0 𝓤 𝓛 𝓜 𝓡 w)))
+    (tie.spec play_requires shape_of-trials returns 𝓤 𝓛 (Over 𝓛 𝓜 𝓡 𝓡.env) (tie.known-0 𝓤 𝓛 𝓜 𝓡 w)))
