@@ -1,5 +1,5 @@
 // A gate at its places, whatever these are.
-ghost use Rattle.std.specs.Prelude.{◌≡◌};
+ghost use Rattle.std.specs.Prelude.{◌≡◌, Decides};
 ghost use Rattle.std.specs.Option.{option_map};
 ghost use Rattle.rows.specs.Kinds.{coded, k_suits};
 ghost use Rattle.rows.specs.Steps.{has, kind_of, pair_below, placed, shares, formed, well_formed};
@@ -90,6 +90,22 @@ impl<P: Place> Placed<P> {
         match other {
             Placed::One(_, _, a) => self.takes(a),
             Placed::Two(_, _, a, b) => self.takes(a) || self.takes(b),
+        }
+    }
+
+    /// Whether the gates are of one kind, with one k, at the same places, first for first.
+    // Not by the derived ==: that two gates differ where it says no did not close, as nothing known splits a generic enum there.
+    pub fn is(self, other: Placed<P>) -> bool
+        ensures { Decides result (placed P.number self ≡ placed P.number other) }
+    {
+        match (self, other) {
+            (Placed::One(kind, k, a), Placed::One(kind2, k2, a2)) => {
+                kind == kind2 && k == k2 && a.number() == a2.number()
+            }
+            (Placed::Two(kind, k, a, b), Placed::Two(kind2, k2, a2, b2)) => {
+                kind == kind2 && k == k2 && a.number() == a2.number() && b.number() == b2.number()
+            }
+            _ => false,
         }
     }
 }
