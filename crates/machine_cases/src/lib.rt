@@ -31,7 +31,7 @@ pub struct Readings {
 fn y_under_s() -> Product
     ensures { result ≡ record { letters = 1 ∷ 0 ∷ []; minus = true } }
 {
-    let mut p = Pauli::new(2, &[3], false);
+    let mut p = Pauli::new(2, &[3]);
     p.gate(Kind::S, Wire(0), Wire(0), 0);
     Product {
         letters: [p.read(Wire(0)), p.read(Wire(1))],
@@ -43,7 +43,7 @@ fn y_under_s() -> Product
 fn x_y_under_cz() -> Product
     ensures { result ≡ record { letters = 3 ∷ 1 ∷ []; minus = true } }
 {
-    let mut p = Pauli::new(2, &[1, 3], false);
+    let mut p = Pauli::new(2, &[1, 3]);
     p.gate(Kind::Cz, Wire(0), Wire(1), 0);
     Product {
         letters: [p.read(Wire(0)), p.read(Wire(1))],
