@@ -124,7 +124,7 @@ module _ (cap : ℕ) where
         omega arith
 
 -- some of the gates are not more than the gates
-at_most_all : {n : ℕ} {c gates : List Gate} → Within n c gates → length c ≤ length gates
+pub at_most_all : {n : ℕ} {c gates : List Gate} → Within n c gates → length c ≤ length gates
 at_most_all none = omega arith
 at_most_all (skip g k) = let h = at_most_all k in omega arith
 at_most_all (keep g f k) = let h = at_most_all k in omega arith
