@@ -5,7 +5,7 @@
 ghost use Rattle.std.specs.Prelude.{◌≡◌, false, refl, ⊤};
 ghost use Rattle.machine.specs.Local.{local};
 ghost use Rattle.machine.specs.Machines.{HasTrueCnot};
-ghost use Rattle.bits.specs.Flips.{bits_rule, bit_of};
+ghost use Rattle.bits.specs.Flips.{bits_rule, bit_of, all_clear};
 
 use cells::{Local, Table, TrueLocal, Width};
 use machine::{Double, Single};
@@ -26,7 +26,7 @@ impl Local for BitsRule {
 
     ghost blank = { false };
 
-    ghost begun = { λ _ _. false };
+    ghost fresh = { all_clear };
 
     ghost Promise = { HasTrueCnot (local bits_rule) };
 
@@ -34,7 +34,7 @@ impl Local for BitsRule {
 
     ghost zero = { λ _. refl };
 
-    ghost past = { λ _ _ _. refl };
+    ghost begun = { λ _. record { wide = refl; plus = refl; past = λ _ _. refl } };
 
     fn make(_width: u8, number: u64) -> bool {
         number % 2 == 1

@@ -1,8 +1,8 @@
 // What one wire holds.
-ghost use Rattle.std.specs.Prelude.{◌≡◌, ◌≤◌, ℕ};
+ghost use Rattle.std.specs.Prelude.{◌≡◌, ℕ};
 ghost use Rattle.machine.specs.Machines.{HasTrueCnot};
 ghost use Rattle.machine.specs.Local.{Rule, Cells, local};
-ghost use Rattle.cells.specs.Tables.{begun_by};
+ghost use Rattle.cells.specs.Tables.{Begun};
 
 use crate::width::Width;
 use machine::{Double, Single};
@@ -20,13 +20,13 @@ pub trait Local {
 
     ghost blank: { Self.Cell };
 
-    // the cell with which a wire begins, in a machine of so many wires
-    ghost begun: { ℕ → ℕ → Self.Cell };
+    // the state with which so many wires begin
+    ghost fresh: { ℕ → Cells Self.Cell };
 
     // what is promised of the rule
     ghost Promise: { Type 0 };
 
-    // what is promised of a fresh state of so many wires
+    // what is promised of the state with which so many wires begin
     ghost FreshPromise: { ℕ → Cells Self.Cell → Type 0 };
 
     /// The cell of a number, in a machine of so many wires; bits that no reading can answer are dropped.
@@ -35,7 +35,7 @@ pub trait Local {
 
     /// The cell with which a wire begins, in a machine of so many wires.
     fn begin(width: Width, wire: Wire) -> Self::Cell
-        ensures { result ≡ begun width.n wire.0 };
+        ensures { result ≡ (fresh width.n).cell wire.0 };
 
     /// The cell as a number.
     fn shown(cell: Self::Cell) -> u64
@@ -56,13 +56,12 @@ pub trait Local {
     /// Says what is promised of the rule: it is called for what it promises, and does nothing.
     fn promise(width: Width)
         ensures always { Promise }
-        ensures fresh { FreshPromise width.n (begun_by (begun width.n) width.n) };
+        ensures begun { FreshPromise width.n (fresh width.n) };
 
     // the number 0 makes the blank cell
     ghost zero: { (n : ℕ) → made n 0 ≡ blank };
 
-    // a wire that is not below the width begins with the blank cell
-    ghost past: { (n w : ℕ) → n ≤ w → begun n w ≡ blank };
+    ghost begun: { (n : ℕ) → Begun blank n (fresh n) };
 }
 
 /// A rule by which gates may flip the sign.

@@ -1,6 +1,6 @@
 // A table of cells, one a wire.
 ghost use Rattle.std.specs.Prelude.{◌≡◌, ◌<◌, false, min, take, slice_index};
-ghost use Rattle.cells.specs.Tables.{made_of, begun_by};
+ghost use Rattle.cells.specs.Tables.{made_of};
 ghost use Rattle.cells.specs.Means.{means_of};
 
 mod gates;
@@ -61,7 +61,7 @@ impl<L: Local<Cell = C>, C: Copy> Table<L, C> {
 
     /// The cells with which wires begin, and plus. More than 64 wires count as 64.
     pub fn fresh(width: u8) -> Self
-        ensures made { means_of L.blank result ≡ begun_by (L.begun (min width 64)) (min width 64) }
+        ensures made { means_of L.blank result ≡ L.fresh (min width 64) }
         ensures promise { L.Promise }
         ensures fresh { L.FreshPromise (min width 64) (means_of L.blank result) }
     {
@@ -70,7 +70,7 @@ impl<L: Local<Cell = C>, C: Copy> Table<L, C> {
         let cells = array::from_fn(
             |i| -> C
                 requires { i < 64 }
-                ensures { result ≡ L.begun width.n i }
+                ensures { result ≡ (L.fresh width.n).cell i }
             { L::begin(width, Wire(i as u8)) },
         );
         Table {

@@ -15,10 +15,6 @@ use Rattle.cone.proofs.Unions.{in_or, or_in, own_in, in_own}
 abbrev after : Gate → Cells ℕ → Cells ℕ
 after g u = (local cone_rule).gated g u
 
--- the wires that a gate joins: each with itself, and its own
-abbrev Joins : Gate → ℕ → ℕ → Type 0
-Joins g v w = (v ≡ w) ⊎ ((has g v ≡ true) × (has g w ≡ true))
-
 -- both wires of a gate on two have the union
 union : (κ : Kind) (k a b : ℕ) (u : Cells ℕ) → fits (wires u) (two κ k a b) ≡ true → (w : ℕ) → has (two κ k a b) w ≡ true →
     (after (two κ k a b) u).cell w ≡ bit_or (u.cell a) (u.cell b)

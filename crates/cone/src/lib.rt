@@ -2,11 +2,11 @@
 
 #![tactic(auto)]
 
-ghost use Rattle.std.specs.Prelude.{◌≡◌, ◌^◌, cond, nat_lt, ⊤};
+ghost use Rattle.std.specs.Prelude.{◌≡◌, ◌^◌, nat_lt, refl, ⊤};
 ghost use Rattle.std.proofs.Math.Nat.{zero-mod};
 ghost use Rattle.std.proofs.lemmas.Bool.{cond-false, le-ltb};
 ghost use Rattle.cone.specs.Causal.{Causal};
-ghost use Rattle.cone.specs.Sets.{cone_rule, set_of};
+ghost use Rattle.cone.specs.Sets.{cone_rule, set_of, own_wires};
 
 use cells::{Local, Table, Width};
 use machine::{Double, Single};
@@ -28,7 +28,7 @@ impl Local for ConeRule {
 
     ghost blank = { 0 };
 
-    ghost begun = { λ n w. cond (nat_lt w n) (2 ^ w) 0 };
+    ghost fresh = { own_wires };
 
     ghost Promise = { ⊤ };
 
@@ -36,7 +36,7 @@ impl Local for ConeRule {
 
     ghost zero = { λ n. zero-mod (2 ^ n) };
 
-    ghost past = { λ n w h. cond-false (nat_lt w n) (2 ^ w) 0 (le-ltb w n h) };
+    ghost begun = { λ n. record { wide = refl; plus = refl; past = λ w h. cond-false (nat_lt w n) (2 ^ w) 0 (le-ltb w n h) } };
 
     fn make(width: u8, number: u64) -> u64 {
         if width < 64 {

@@ -3,7 +3,7 @@
 #![tactic(auto)]
 
 ghost use Rattle.std.specs.Prelude.{◌≡◌, refl, ⊤};
-ghost use Rattle.depth.specs.Counts.{depth_rule, count_of};
+ghost use Rattle.depth.specs.Counts.{depth_rule, count_of, zeros};
 ghost use Rattle.depth.specs.Longest.{CountsChains};
 
 use cells::{Local, Table, Width};
@@ -25,7 +25,7 @@ impl Local for DepthRule {
 
     ghost blank = { 0 };
 
-    ghost begun = { λ _ _. 0 };
+    ghost fresh = { zeros };
 
     ghost Promise = { ⊤ };
 
@@ -33,7 +33,7 @@ impl Local for DepthRule {
 
     ghost zero = { λ _. refl };
 
-    ghost past = { λ _ _ _. refl };
+    ghost begun = { λ _. record { wide = refl; plus = refl; past = λ _ _. refl } };
 
     fn make(_width: u8, number: u64) -> u32 {
         (number % 0x1_0000_0000) as u32

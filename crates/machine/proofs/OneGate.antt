@@ -12,10 +12,6 @@ pub has_below : (n : ℕ) (g : Gate) (w : ℕ) → fits n g ≡ true → has g w
 has_below n (one κ k a) w f h = grind (arith, nat_tests)
 has_below n (two κ k a b) w f h = grind (arith, nat_tests)
 
--- a gate has its wires
-pub has_one : (κ : Kind) (k a w : ℕ) → has (one κ k a) w ≡ true → a ≡ w
-has_one κ k a w h = grind (arith, nat_tests)
-
 module _ {C : Type 0} (r : Rule C) where
   pub gated_unfit : (g : Gate) (u : Cells C) → fits (wires u) g ≡ false → (local r).gated g u ≡ u
   gated_unfit g u f = cond-false _ _ _ (and_right _ _ f)

@@ -6,7 +6,7 @@ ghost use Rattle.std.specs.Prelude.{◌≡◌, false, refl, ⊤};
 ghost use Rattle.rows.specs.declared.kind.Kind.{Kind};
 ghost use Rattle.pauli.specs.declared.Letter.{Letter};
 ghost use Rattle.pauli.specs.Conjugation.{PauliPromise};
-ghost use Rattle.pauli.specs.Letters.{pauli_rule, on_two, letter, letter_of};
+ghost use Rattle.pauli.specs.Letters.{pauli_rule, on_two, letter, letter_of, identity};
 
 use cells::{Local, Signed, Table, TrueLocal, Width};
 use machine::{Double, Single};
@@ -35,7 +35,7 @@ impl Local for PauliRule {
 
     ghost blank = { letter false false };
 
-    ghost begun = { λ _ _. letter false false };
+    ghost fresh = { identity };
 
     ghost Promise = { PauliPromise };
 
@@ -43,7 +43,7 @@ impl Local for PauliRule {
 
     ghost zero = { λ _. refl };
 
-    ghost past = { λ _ _ _. refl };
+    ghost begun = { λ _. record { wide = refl; plus = refl; past = λ _ _. refl } };
 
     fn make(_width: u8, number: u64) -> Letter {
         Letter {
