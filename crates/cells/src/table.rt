@@ -11,6 +11,7 @@ use rows::Wire;
 use std::array;
 use std::marker::PhantomData;
 
+// An array of 64 and a width, not a Vec: no call of a machine may allocate, and tables are copied.
 /// A cell a wire, and whether the sign is minus, under the gates of the rule `L`.
 #[derive_where(Clone, Copy; C)]
 pub struct Table<L, C> {

@@ -7,6 +7,7 @@ use cells::Width;
 use rows::{Wire, trade};
 use std::array;
 
+// An array of 64 and a width, not a Vec: no call of a layer may allocate.
 /// A name for each wire, one to one.
 #[derive(Clone, Copy)]
 pub struct Names {
