@@ -1,7 +1,8 @@
 // The whole text for an input.
 ghost use Rattle.std.specs.Prelude.{◌≡◌, ℕ, IfOk, string_bytes};
+ghost use Rattle.rows.specs.Printed.{refusal_line};
 ghost use Rattle.chip.specs.Chips.{chart_of};
-ghost use Rattle.chip_text.specs.Report.{Far, chip_text, refusal_text, Text, Printed};
+ghost use Rattle.chip_text.specs.Report.{Far, chip_text, Text, Printed};
 
 use crate::counts::diameter;
 use crate::sections::{couplings, degrees, distances, durations};
@@ -28,11 +29,9 @@ fn describe(heap: Global, chip: &Chip) -> Result<String, AllocError>
 
 /// The line of a refusal: its number and its place.
 fn refusal(heap: Global, fault: Fault) -> Result<String, AllocError>
-    ensures { IfOk result (λ t. string_bytes t ≡ refusal_text fault) }
+    ensures { IfOk result (λ t. string_bytes t ≡ refusal_line fault) }
 {
-    let number = fault.number();
-    let place = fault.place;
-    format!(in heap; "refused {number} {place}\n")
+    format!(in heap; "{fault}\n")
 }
 
 /// The text for a chip as it is written.

@@ -45,9 +45,9 @@ fn duration(out: &mut String, chip: &Chip, code: u8) -> Result<(), AllocError>
     requires { (1 ≤ code) × (code ≤ 12) }
     ensures { OnOk result (string_bytes out.new ≡ string_bytes out.old ++ duration_line (kind_name (coded code)) ((chart_of chip.now).cycles code)) }
 {
-    let (name, cycles) = match Kind::of(code) {
-        Some(kind) => (kind.name(), chip.duration(kind)),
-        None => ("swap", chip.exchange_duration()),
+    let (name, cycles) = match Kind::try_from(code) {
+        Ok(kind) => (kind.name(), chip.duration(kind)),
+        Err(_) => ("swap", chip.exchange_duration()),
     };
     writeln!(out, "duration {name} {cycles}")
 }

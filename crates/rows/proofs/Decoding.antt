@@ -1,8 +1,8 @@
 -- The row of a gate, or of a step, decodes to it again.
-use Rattle.std.proofs.Common.{◌≡◌, ℕ, Bool, true, false, cond, not, ◌&&◌, ◌||◌, eqb, ltb, Some, None, Option, sym, refl, ap, ◌∙◌}
+use Rattle.std.proofs.Common.{◌≡◌, ℕ, Bool, true, false, cond, not, ◌&&◌, ◌||◌, eqb, ltb, Some, sym, refl, ap, ◌∙◌}
 use Rattle.rows.specs.declared.kind.Kind.{Kind}
 use Rattle.rows.specs.Kinds.{code, coded, double, k_suits}
-use Rattle.rows.specs.Steps.{Gate, one, two, Step, gate, swap, kind_of, k_of, pair_below, fits, gate_on, when, well_formed, formed, gate_of, as_step, step_of, row_of_gate, written}
+use Rattle.rows.specs.Steps.{Gate, one, two, gate, swap, kind_of, k_of, pair_below, fits, when, formed, gate_of, as_step, step_of, row_of_gate, written}
 
 coded_code : (κ : Kind) → coded (code κ) ≡ Some κ
 coded_code Kind.X = refl

@@ -19,10 +19,7 @@ fn all_given(durations: &[Option<u16>; 13]) -> Result<[u16; 13], Fault>
     // A loop over the kinds' codes, not over the entries: entry 0 is no kind's.
     let mut cycles = [0; 13];
     for kind in 1..13 {
-        cycles[kind] = durations[kind].ok_or(Fault {
-            refusal: Refusal::NoDuration,
-            place: kind,
-        })?;
+        cycles[kind] = durations[kind].ok_or(Refusal::NoDuration.at(kind))?;
     }
     Ok(cycles)
 }
@@ -35,10 +32,7 @@ impl ChipRecords<'_> {
             (λ f. MadeChip self.entry.wires self.entry.bytes.now (Err f)) }
     {
         if !(1..=64).contains(&self.wires) || self.bytes.len() % 4 != 0 {
-            return Err(Fault {
-                refusal: Refusal::RaggedChip,
-                place: 0,
-            });
+            return Err(Refusal::RaggedChip.at(0));
         }
         Ok(())
     }
@@ -52,10 +46,7 @@ impl ChipRecords<'_> {
         let durations = all_given(&draft.durations)?;
         let wires = self.wires as usize;
         if let Some(place) = Reach::from(&draft.couplings, 0).missing(wires) {
-            return Err(Fault {
-                refusal: Refusal::Parted,
-                place,
-            });
+            return Err(Refusal::Parted.at(place));
         }
         let distances = distances(&draft.couplings, wires);
         Ok(Chip {
