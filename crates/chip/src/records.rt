@@ -92,7 +92,9 @@ impl ChipRecords<'_> {
     {
         let mut draft = Draft::blank();
         for (i, quad) in self.bytes.as_chunks::<4>().0.iter().enumerate() {
-            draft.read(self.wires, quad).ok_or(Refusal::BadRecord.at(i))?;
+            draft
+                .read(self.wires, quad)
+                .ok_or(Refusal::BadRecord.at(i))?;
         }
         Ok(draft)
     }

@@ -17,8 +17,8 @@ pub returns-in-Some : goal.returns-in-Some
 returns-in-Some c =
     let d = c.in_ok-draft.draft in
     let e = c.in-Some.ensures in
-    made_10 _ _ d.couplings.rows d.durations c.in_ok-draft.ensures c.requires c.in_ok-durations.durations c.in_ok-durations.ensures
-    c.from.result.steps c.from.ensures c.in-Some.place e.0 e.1 e.2
+    rw c.at.ensures (made_10 _ _ d.couplings.rows d.durations c.in_ok-draft.ensures c.requires c.in_ok-durations.durations c.in_ok-durations.ensures
+    c.from.result.steps c.from.ensures c.in-Some.place e.0 e.1 e.2)
 
 pub distances-distances-requires-clause-inside : goal.distances-distances-requires-clause-inside
 distances-distances-requires-clause-inside c =
