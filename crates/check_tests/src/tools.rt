@@ -9,7 +9,7 @@ fn reply_on(rt: &impl AllocGlobal, chip: &str, input: &[u8]) -> Result<Reply, Fa
     let Some(chip) = chip_named(chip) else {
         return Err(Fail::new("no such chip"));
     };
-    Ok(reply(rt.alloc(), chip.wires, chip.records, input)?)
+    Ok(reply(rt.alloc(), chip, input)?)
 }
 
 // The reply on the chip of this name is these lines.

@@ -1,5 +1,5 @@
 -- From the parts of a reply to the whole.
-use Rattle.std.proofs.Common.{◌≡◌, ℕ, ◌-◌, ◌≤◌, Bool, true, List, map, length, take, drop, IfOk, Ok, Err, string_bytes, Result, sym, ap, ◌∙◌, subst, arith}
+use Rattle.std.proofs.Common.{◌≡◌, ℕ, ◌≤◌, Bool, true, List, map, length, take, drop, IfOk, Ok, Err, string_bytes, Result, sym, ap, ◌∙◌, subst, arith}
 use Rattle.std.proofs.lemmas.List.{length-map, take_at}
 use Rattle.rows.specs.declared.kind.Kind.{Kind}
 use Rattle.rows.specs.declared.place.Wire.{Wire}
@@ -50,7 +50,7 @@ all_offered b b' input out ss xs ys zs r found read plays clears same shown l h 
 -- what an able machine's refusals are
 module _ (a : Ability) (wires : ℕ) (records : List ℕ) (n : ℕ) (places : List Wire) (rows : List GateRow) (gs : List Gate)
     (width : a.width ≡ 64) (kinds : (κ : Kind) → known a.kinds κ ≡ true) (ordered : places ≡ in_order n) (written : rows ≡ map row_of_gate gs) where
-  same_fits : (P : (Refusal → ℕ → Type 0) → Type 0) → P (Fits a wires records n places rows) → P (LayoutFits wires records n gs)
+  same_fits : (P : (Refusal → ℕ → Type 0) → Type 0) → P (Fits a (layout wires records n places rows)) → P (LayoutFits wires records n gs)
   same_fits P h =
       let every : known a.kinds ≡ (λ κ. true) = λ i κ. kinds κ i in
       subst (λ (k : ℕ). P (LayFits k (λ κ. true) unlaid (laid_out wires records n gs))) width
@@ -59,11 +59,11 @@ module _ (a : Ability) (wires : ℕ) (records : List ℕ) (n : ℕ) (places : Li
       (subst (λ (rs : List GateRow). P (LayFits a.width (known a.kinds) unlaid (layout wires records n places rs))) written h)))
 
   module _ (input : List ℕ) (circuit : CircuitOf input n gs) where
-    pub refused_so : (f : Fault) → Turned (Fits a wires records n places rows) f → (x : Reply) → Says x (refusal_line f) → Replies wires records input x
+    pub refused_so : (f : Fault) → Turned (Fits a (layout wires records n places rows)) f → (x : Reply) → Says x (refusal_line f) → Replies wires records input x
     refused_so f t (Reply.Lines s) says = subst (Prints wires records input) (sym says) (layout_refused n gs circuit f (same_fits (λ F. Turned F f) t))
     refused_so f t (Reply.Unreadable line) says = absurd says
 
-    laid : (b : Book) → LaysPlan a wires records n places rows b.plan → Laid wires records input (plan_in b.plan)
+    laid : (b : Book) → LaysPlan a (layout wires records n places rows) b.plan → Laid wires records input (plan_in b.plan)
     laid b h = record {
       n = n;
       gs = gs;
@@ -72,7 +72,7 @@ module _ (a : Ability) (wires : ℕ) (records : List ℕ) (n : ℕ) (places : Li
       given = h.given ∙ (λ i. plan_of (layout wires records n (ordered i) (written i)));
     }
 
-    pub judged_so : (b : Book) → LaysPlan a wires records n places rows b.plan → Holds b (fresh (plan_in b.plan)) → (x : Reply) →
+    pub judged_so : (b : Book) → LaysPlan a (layout wires records n places rows) b.plan → Holds b (fresh (plan_in b.plan)) → (x : Reply) →
         ((l : Log) → Holds b l → Judged (plan_in b.plan) l input x) → Replies wires records input x
     judged_so b h holds (Reply.Lines s) j = judged (plan_in b.plan) (laid b h) (string_bytes s) (j (fresh (plan_in b.plan)) holds)
     judged_so b h holds (Reply.Unreadable line) j = ((plan_in b.plan, laid b h), j (fresh (plan_in b.plan)) holds)
@@ -87,10 +87,10 @@ module _ (input part : List ℕ) (cut : Cut input part) (old new : List GateRow)
     rows_fit = omega (arith, h.2, circuit_fits (room old) (statements_of part) c.qubits h.0 h.1, room_is old long)
 
     -- and it is the row of that gate
-    pub rows_are : take (c.gates - 0) new ≡ map row_of_gate h.0
+    pub rows_are : take c.gates new ≡ map row_of_gate h.0
     rows_are =
-        let count : c.gates - 0 ≡ length (map row_of_gate h.0) = omega (arith, h.2, length-map h.0 row_of_gate) in
-        ap (take (c.gates - 0)) h.3 ∙ take_at (map row_of_gate h.0) (drop (length (map row_of_gate h.0)) old) (c.gates - 0) (sym count)
+        let count : c.gates ≡ length (map row_of_gate h.0) = omega (arith, h.2, length-map h.0 row_of_gate) in
+        ap (take c.gates) h.3 ∙ take_at (map row_of_gate h.0) (drop (length (map row_of_gate h.0)) old) c.gates (sym count)
 
     pub circuit_of : CircuitOf input c.qubits h.0
     circuit_of = record { part = part; cut = cut; circuit = subst (λ k. IsCircuit k (statements_of part) c.qubits h.0) (room_is old long) h.1 }

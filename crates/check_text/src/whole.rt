@@ -13,7 +13,8 @@ use crate::print::show_answers;
 use crate::steps::{Steps, read_steps};
 use audit::audit;
 use book::Book;
-use plan::Ability;
+use chip::ChipRecords;
+use plan::{Ability, Layout};
 use rows::{Fault, Gate as GateRow, Logical, Wire};
 use std::alloc::{AllocError, Global};
 use step_text::write_refusal;
@@ -56,17 +57,22 @@ fn judge(heap: Global, mut book: Book, input: &[u8]) -> Result<Reply, AllocError
 // Lays the input's circuit, of so many qubits and with these gates, and offers it the steps.
 fn lay_and_judge(
     heap: Global,
-    wires: u8,
-    records: &[u8],
+    chip: ChipRecords,
     input: &[u8],
     qubits: u8,
     gates: &[GateRow],
 ) -> Result<Reply, AllocError>
-    ensures { IfOk result (λ x. (gs : List Gate) → gates.now ≡ map row_of_gate gs → CircuitOf input.now qubits gs → Replies wires records.now input.now x) }
+    ensures { IfOk result (λ x. (gs : List Gate) → gates.now ≡ map row_of_gate gs → CircuitOf input.now qubits gs → Replies chip.entry.wires chip.entry.bytes.now input.now x) }
 {
     let places = first_places(heap, qubits)?;
     let ability = Ability::all(64);
-    match Book::lay(&ability, wires, records, qubits, &places, gates) {
+    let layout = Layout {
+        chip,
+        qubits,
+        places: &places,
+        gates,
+    };
+    match Book::lay(&ability, layout) {
         Ok(book) => judge(heap, book, input),
         Err(fault) => refused(heap, fault),
     }
@@ -75,26 +81,25 @@ fn lay_and_judge(
 // The reply to an input whose circuit is read into these rows.
 fn reply_with(
     heap: Global,
-    wires: u8,
-    records: &[u8],
+    chip: ChipRecords,
     input: &[u8],
     rows: &mut [GateRow],
 ) -> Result<Reply, AllocError>
     requires { length rows.old ≡ 1024 }
-    ensures { IfOk result (λ x. Replies wires records.now input.now x) }
+    ensures { IfOk result (λ x. Replies chip.entry.wires chip.entry.bytes.now input.now x) }
 {
     match read(circuit_part(input), rows) {
         Ok(Circuit { qubits, gates }) => {
-            lay_and_judge(heap, wires, records, input, qubits, &rows[0..gates])
+            lay_and_judge(heap, chip, input, qubits, &rows[..gates])
         }
         Err(fault) => refused(heap, fault),
     }
 }
 
-/// The reply to an input, on the chip of so many wires that the records give: the line of the refusal of its circuit's text
+/// The reply to an input, on a chip as it is written: the line of the refusal of its circuit's text
 /// or of the layout; the number of the first unreadable step line; or the answers to the steps, and what is counted.
-pub fn reply(heap: Global, wires: u8, records: &[u8], input: &[u8]) -> Result<Reply, AllocError>
-    ensures { IfOk result (λ x. Replies wires records.now input.now x) }
+pub fn reply(heap: Global, chip: ChipRecords, input: &[u8]) -> Result<Reply, AllocError>
+    ensures { IfOk result (λ x. Replies chip.entry.wires chip.entry.bytes.now input.now x) }
 {
     let mut rows = [GateRow {
         kind: 0,
@@ -102,5 +107,5 @@ pub fn reply(heap: Global, wires: u8, records: &[u8], input: &[u8]) -> Result<Re
         second: Logical(0),
         k: 0,
     }; 1024];
-    reply_with(heap, wires, records, input, &mut rows)
+    reply_with(heap, chip, input, &mut rows)
 }
