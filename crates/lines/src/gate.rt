@@ -13,8 +13,8 @@ fn is_within(gate: Written, n: u8) -> bool
     ensures { MatchBool result (Within n (gate_in gate)) (¬ Within n (gate_in gate)) }
 {
     match gate {
-        Written::One(_, a) => a < n as u16,
-        Written::Two(_, _, a, b) => a < n as u16 && b < n as u16,
+        Written::One(_, a) => a < n as u32,
+        Written::Two(_, _, a, b) => a < n as u32 && b < n as u32,
     }
 }
 
