@@ -4,8 +4,9 @@ use Rattle.std.proofs.lemmas.List.{append-nil, append_cancel_left}
 use Rattle.lines.specs.Number.{Digit, Unlike}
 use Rattle.step_text.specs.Kinds.{on_two, has_k}
 use Rattle.step_text.specs.StepLines.{part}
-use Rattle.step_text.specs.Parts.{Begins, Follows, Operands}
-use Rattle.step_text.proofs.Decimal.{begins_same}
+use Rattle.lines.specs.Number.{Begins}
+use Rattle.step_text.specs.Parts.{Follows, Operands}
+use Rattle.lines.proofs.Decimal.{begins_same}
 
 -- no digit follows a number
 part_ends : (w : Bool) (v : ℕ) (rest : List ℕ) → Unlike Digit rest → Unlike Digit (part w v ++ rest)

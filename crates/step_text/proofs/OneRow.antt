@@ -5,9 +5,10 @@ use Rattle.rows.specs.Steps.{step_row}
 use Rattle.step_text.specs.declared.kind.StepKind.{StepKind}
 use Rattle.step_text.specs.Kinds.{step_code}
 use Rattle.step_text.specs.StepLines.{named, operands, Plain, WritesStep}
-use Rattle.step_text.specs.Parts.{Begins, Operands}
+use Rattle.lines.specs.Number.{Begins}
+use Rattle.step_text.specs.Parts.{Operands}
 use Rattle.step_text.proofs.Codes.{kind_at, code_low, code_high, named_same}
-use Rattle.step_text.proofs.Decimal.{begins_same}
+use Rattle.lines.proofs.Decimal.{begins_same}
 use Rattle.step_text.proofs.Lists.{operands_same}
 
 abbrev pub after_name : StepRow → List ℕ

@@ -4,7 +4,6 @@
 
 mod kind;
 mod name;
-mod number;
 mod operands;
 mod print;
 mod step;
