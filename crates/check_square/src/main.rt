@@ -4,7 +4,7 @@
 #![tactic(auto)]
 
 use anyhow::anyhow;
-use check_text::{Reply, reply};
+use check_text::reply;
 use shipped::{Shipped, chip_named};
 use std::env;
 use std::io::Read;
@@ -26,15 +26,9 @@ fn run(rt: &HostRuntime) -> anyhow::Result<()> {
     let chip = chosen(rt)?;
     let mut input = Vec::new(rt.alloc());
     rt.stdin().read_to_end(&mut input)?;
-    match reply(rt.alloc(), chip.wires, chip.records, &input)? {
-        Reply::Lines(lines) => {
-            print!(rt; "{lines}")?;
-            Ok(())
-        }
-        Reply::Unreadable(line) => Err(anyhow!(format!(in rt.alloc();
-            "line {line} is not a step"
-        )?)),
-    }
+    let lines = reply(rt.alloc(), chip.wires, chip.records, &input)?;
+    print!(rt; "{lines}")?;
+    Ok(())
 }
 
 fn main(rt: HostRuntime) -> anyhow::Result<()> {

@@ -1,7 +1,7 @@
 // The lines of the answers.
 ghost use Rattle.std.specs.Prelude.{◌≡◌, ◌++◌, IfOk, string_bytes, OnOk};
 ghost use Rattle.std.specs.List.{flat_map};
-ghost use Rattle.check_text.specs.Answers.{answer_line, trial_line, counts_line, last_line, answers_text};
+ghost use Rattle.check_text.specs.Answers.{answer_line, trial_line, last_line, answers_text};
 
 use audit::Trial;
 use book::Counts;
@@ -29,27 +29,17 @@ fn add_answers(heap: Global, out: &mut String, trials: &[Trial]) -> Result<(), A
     Ok(())
 }
 
-// The line of what is counted.
-fn counts_line(heap: Global, counts: Counts) -> Result<String, AllocError>
-    ensures { IfOk result (λ s. string_bytes s ≡ counts_line counts) }
-{
-    let gates = counts.gates;
-    let steps = counts.kept;
-    let exchanges = counts.exchanges;
-    let end = counts.last;
-    format!(in heap; "gates {gates} steps {steps} exchanges {exchanges} end {end}\n")
-}
-
-// The last line: what is counted, or the lowest open gate.
-fn last_line(heap: Global, cleared: Result<Counts, Fault>) -> Result<String, AllocError>
-    ensures { IfOk result (λ s. string_bytes s ≡ last_line cleared) }
+// Adds the last line: what is counted, or the lowest open gate.
+fn add_last(out: &mut String, cleared: Result<Counts, Fault>) -> Result<(), AllocError>
+    ensures { OnOk result (string_bytes out.new ≡ string_bytes out.old ++ last_line cleared) }
 {
     match cleared {
-        Ok(counts) => counts_line(heap, counts),
-        Err(fault) => {
-            let gate = fault.place;
-            format!(in heap; "open {gate}\n")
-        }
+        Ok(counts) => writeln!(
+            out,
+            "gates {} steps {} exchanges {} end {}",
+            counts.gates, counts.kept, counts.exchanges, counts.last
+        ),
+        Err(fault) => writeln!(out, "open {}", fault.place),
     }
 }
 
@@ -63,7 +53,6 @@ pub fn show_answers(
 {
     let mut out = String::new(heap);
     add_answers(heap, &mut out, trials)?;
-    let last = last_line(heap, cleared)?;
-    out.push_str(last.as_str())?;
+    add_last(&mut out, cleared)?;
     Ok(out)
 }
