@@ -1,6 +1,5 @@
 -- From the parts of a reply to the whole.
-use Rattle.std.proofs.Common.{◌≡◌, ℕ, ◌-◌, ◌≤◌, Bool, true, List, map, length, take, drop, Ok, Err, string_bytes, Result, sym, ap, ◌∙◌, subst, arith}
-use Rattle.std.proofs.lemmas.List.{length-map, take_at}
+use Rattle.std.proofs.Common.{◌≡◌, ℕ, Bool, true, List, map, length, Ok, Err, string_bytes, Result, sym, ap, ◌∙◌, subst, arith}
 use Rattle.rows.specs.declared.kind.Kind.{Kind}
 use Rattle.rows.specs.declared.place.Wire.{Wire}
 use Rattle.rows.specs.declared.refusal.Fault.{Fault}
@@ -8,9 +7,7 @@ use Rattle.rows.specs.declared.refusal.Refusal.{Refusal}
 use Rattle.rows.specs.declared.row.Gate.{Gate as GateRow}
 use Rattle.rows.specs.Refusals.{Accepted, Turned}
 use Rattle.rows.specs.Steps.{Gate, row_of_gate}
-use Rattle.text.specs.declared.circuit.Circuit.{Circuit}
-use Rattle.text.specs.Reading.{Statement, statements_of, IsCircuit, IsRefused, room, Reading}
-use Rattle.text.proofs.Decoding.{circuit_fits}
+use Rattle.text.specs.Reading.{Statement, statements_of, IsRefused, room, Reading}
 use Rattle.sheet.specs.Sheets.{Log, unlaid, plan_of, fresh}
 use Rattle.sheet.specs.Refusals.{LayFits}
 use Rattle.plan.specs.declared.ability.Ability.{Ability}
@@ -82,21 +79,7 @@ module _ (a : Ability) (wires : ℕ) (records : List ℕ) (n : ℕ) (places : Li
 room_is : (old : List GateRow) → length old ≡ 1024 → room old ≡ 1024
 room_is old h = omega (arith, h)
 
-module _ (input part : List ℕ) (cut : Cut input part) (old new : List GateRow) (long : length old ≡ 1024) where
-  module _ (c : Circuit) (h : Reading part old new (Ok c)) where
-    -- there is a row for each gate
-    pub rows_fit : c.gates ≤ 1024
-    rows_fit = omega (arith, h.2, circuit_fits (room old) (statements_of part) c.qubits h.0 h.1, room_is old long)
-
-    -- and it is the row of that gate
-    pub rows_are : take (c.gates - 0) new ≡ map row_of_gate h.0
-    rows_are =
-        let count : c.gates - 0 ≡ length (map row_of_gate h.0) = omega (arith, h.2, length-map h.0 row_of_gate) in
-        ap (take (c.gates - 0)) h.3 ∙ take_at (map row_of_gate h.0) (drop (length (map row_of_gate h.0)) old) (c.gates - 0) (sym count)
-
-    pub circuit_of : CircuitOf input c.qubits h.0
-    circuit_of = record { part = part; cut = cut; circuit = subst (λ k. IsCircuit k (statements_of part) c.qubits h.0) (room_is old long) h.1 }
-
-  pub text_so : (wires : ℕ) (records : List ℕ) (f : Fault) → Reading part old new (Err f) → (s : String Global) → string_bytes s ≡ refusal_line f → Replies wires records input (Ok s)
-  text_so wires records f h s says =
-      subst (Prints wires records input) (sym says) (text_refused f (record { part = part; cut = cut; refused = subst (λ k. IsRefused k (statements_of part) f) (room_is old long) h.0 }))
+pub text_so : (input part : List ℕ) → Cut input part → (old new : List GateRow) → length old ≡ 1024 → (wires : ℕ) (records : List ℕ) (f : Fault) → Reading part old new (Err f) →
+    (s : String Global) → string_bytes s ≡ refusal_line f → Replies wires records input (Ok s)
+text_so input part cut old new long wires records f h s says =
+    subst (Prints wires records input) (sym says) (text_refused f (record { part = part; cut = cut; refused = subst (λ k. IsRefused k (statements_of part) f) (room_is old long) h.0 }))

@@ -1,18 +1,13 @@
 -- The lines before the line `steps`.
-use Rattle.std.proofs.Common.{◌≡◌, ℕ, ◌+◌, ◌-◌, ◌<◌, ◌≤◌, ◌⊎◌, List, [], ◌∷◌, ◌++◌, length, take, codes, sym, refl, ap, ◌∙◌, subst, inl, inr, arith, length-append}
+use Rattle.std.proofs.Common.{◌≡◌, ℕ, ◌+◌, ◌-◌, ◌<◌, ◌⊎◌, List, [], ◌∷◌, ◌++◌, length, take, codes, sym, ap, ◌∙◌, subst, inl, inr, arith, length-append}
 use Rattle.std.specs.List.{AllByRecursion}
 use Rattle.std.proofs.ByRecursion.{All-push}
-use Rattle.std.proofs.lemmas.List.{append-nil, append_assoc, take_at, flat_map_more}
+use Rattle.std.proofs.lemmas.List.{append_assoc, take_at, flat_map_more}
 use Rattle.text.specs.Reading.{lines}
 use Rattle.text.specs.Writing.{Unbroken, ended}
 use Rattle.text.specs.Cutting.{FirstLine}
-use Rattle.text.proofs.FirstLine.{line_then, lines_first}
+use Rattle.text.proofs.FirstLine.{lines_ended, lines_first}
 use Rattle.check_text.specs.Cutting.{NoneSteps, Divided, Cut}
-
--- the lines of lines put together are these lines
-lines_ended : (ls : List (List ℕ)) → AllByRecursion Unbroken ls → lines (ended ls) ≡ ls
-lines_ended [] h = refl
-lines_ended (l ∷ ls) h = ap lines (append_assoc l (10 ∷ []) (ended ls)) ∙ line_then l (ended ls) h.0 ∙ ap (λ k. l ∷ k) (lines_ended ls h.1)
 
 -- the lines passed so far, none of which is `steps`; they are put together at the front of the input as long as some of it is left
 pub record Passed (input rest : List ℕ) : Type 0 where
@@ -21,9 +16,6 @@ pub record Passed (input rest : List ℕ) : Type 0 where
   pub unbroken : AllByRecursion Unbroken ls
   pub whole : lines input ≡ ls ++ lines rest
   pub front : 0 < length rest → input ≡ ended ls ++ rest
-
-pub passed_none : (input : List ℕ) → Passed input input
-passed_none input = record { ls = []; none = tt; unbroken = tt; whole = refl; front = λ h. refl }
 
 module _ (input rest line after : List ℕ) (some : 0 < length rest) (p : Passed input rest) (f : FirstLine rest line after) where
   next_whole : lines input ≡ p.ls ++ (line ∷ lines after)
@@ -63,14 +55,7 @@ module _ (input rest line after : List ℕ) (some : 0 < length rest) (p : Passed
       by (inl e) = inl (p.front some ∙ ap (λ l. ended p.ls ++ l) (e ∙ ap (λ l. l ++ (10 ∷ after)) is))
       by (inr e) = inr (p.front some ∙ ap (λ l. ended p.ls ++ l) (e.0 ∙ is), e.1)
 
-  pub rest_within : length rest ≤ length input
-  rest_within = omega (arith, front_long)
-
   pub cut_found : line ≡ codes "steps" → (n : ℕ) → n ≡ length input - length rest → Cut input (take n input)
   cut_found is n e =
       subst (Cut input) (sym (ap (λ k. take k input) e ∙ front_taken))
       (record { none = subst NoneSteps (sym (lines_ended p.ls p.unbroken)) p.none; is = inr (after, divided is) })
-
-pub cut_none : (input rest : List ℕ) → rest ≡ [] → Passed input rest → Cut input input
-cut_none input rest e p =
-    record { none = subst NoneSteps (sym (p.whole ∙ ap (λ l. p.ls ++ lines l) e ∙ append-nil p.ls)) p.none; is = inl refl }

@@ -1,10 +1,11 @@
 -- The first line of a text.
 use Rattle.std.proofs.Common.{◌≡◌, ℕ, ◌+◌, ◌-◌, ◌<◌, ◌≤◌, ◌⊎◌, false, eqb, List, [], ◌∷◌, ◌++◌, length, get_or, take, drop, sym, refl, ap, ◌∙◌, inl, inr, arith, length-append, take-append-drop, length-take-le, get_or-take}
+use Rattle.std.specs.List.{AllByRecursion}
 use Rattle.std.proofs.ByRecursion.{All-from_get_or}
-use Rattle.std.proofs.lemmas.List.{take_rest, drop_more}
+use Rattle.std.proofs.lemmas.List.{append_assoc, take_rest, drop_more}
 use Rattle.std.proofs.lemmas.Bool.Decides.{nat_tests}
 use Rattle.text.specs.Reading.{onto, lines}
-use Rattle.text.specs.Writing.{Unbroken}
+use Rattle.text.specs.Writing.{Unbroken, ended}
 use Rattle.text.specs.Cutting.{FirstLine}
 
 not_ten : (b : ℕ) → (b ≡ 10 → ⊥) → eqb b 10 ≡ false
@@ -18,6 +19,11 @@ pub line_alone : (l : List ℕ) → 0 < length l → Unbroken l → lines l ≡ 
 line_alone [] some h = absurd (omega arith)
 line_alone (b ∷ []) some h = rw (not_ten b h.0) refl
 line_alone (b ∷ c ∷ l) some h = rw (not_ten b h.0) (ap (onto b) (line_alone (c ∷ l) (omega arith) h.1))
+
+-- the lines of lines put together are these lines
+pub lines_ended : (ls : List (List ℕ)) → AllByRecursion Unbroken ls → lines (ended ls) ≡ ls
+lines_ended [] h = refl
+lines_ended (l ∷ ls) h = ap lines (append_assoc l (10 ∷ []) (ended ls)) ∙ line_then l (ended ls) h.0 ∙ ap (λ k. l ∷ k) (lines_ended ls h.1)
 
 -- no byte before index n is 10
 abbrev pub Without : List ℕ → ℕ → Type 0
