@@ -2,3 +2,4 @@ pub mod Reading
 pub mod Writing
 pub mod Cutting
 pub mod Steps
+pub mod Lexing
