@@ -1,6 +1,5 @@
 // The steps of the lines after the line `steps`.
-ghost use Rattle.std.specs.Prelude.{◌+◌};
-ghost use Rattle.text.specs.Reading.{lines, statements};
+ghost use Rattle.text.specs.Lexing.{left};
 ghost use Rattle.check_text.specs.Stepping.{AfterSteps, ReadsAll, ReadsSteps};
 
 use crate::cut::is_steps;
@@ -12,21 +11,17 @@ use text::Lexer;
 
 // Passes all statements up to the first that is `steps`.
 fn find_steps(lexer: &mut Lexer)
-    ensures { AfterSteps (statements (lexer.old.passed + 1) (lines lexer.old.rest.now)) (statements (lexer.new.passed + 1) (lines lexer.new.rest.now)) }
+    ensures { AfterSteps (left lexer.old) (left lexer.new) }
 {
-    while let Some(word) = lexer.next() {
-        if is_steps(word.bytes) {
-            return;
-        }
-    }
+    lexer.find(|word| is_steps(word.bytes));
 }
 
 // The steps of the statements that are left.
-fn read_all(heap: Global, mut lexer: Lexer) -> Result<Vec<Trial>, CheckError>
-    ensures { ReadsAll (statements (lexer.entry.passed + 1) (lines lexer.entry.rest.now)) result }
+fn read_all(heap: Global, lexer: Lexer) -> Result<Vec<Trial>, CheckError>
+    ensures { ReadsAll (left lexer.entry) result }
 {
     let mut trials = Vec::new(heap);
-    while let Some(word) = lexer.next() {
+    for word in lexer {
         let step = step_of(word.bytes).ok_or(CheckError::Unreadable(word.line))?;
         trials.push(Trial { step, answer: None })?;
     }

@@ -1,4 +1,4 @@
-use Rattle.std.proofs.Common.{◌≡◌, ◌-◌, ap, subst, arith}
+use Rattle.std.proofs.Common.{◌≡◌, ◌-◌, subst, arith}
 use Rattle.text.specs.declared.lexer.Lexer.{Lexer}
 use Rattle.text.specs.Lexing.{left, written}
 use Rattle.text.specs.Steps.{Filled}
