@@ -72,12 +72,6 @@ parts line rest after κ v g cut b w =
     let nums = begins_same 9999 rest v (first_of g) after (tail g) (omega arith) b (subst (λ s. Begins 9999 s (first_of g) (tail g)) (sym same.1) (first_begins g w.writable)) in
     (same.0, nums.0, nums.1)
 
--- the same line cut after its name alone
-pub first_part : (line rest : List ℕ) (κ : Kind) (g : Gate) → line ≡ name κ ++ (codes " q" ++ rest) → Writes line g → Begins 9999 rest (first_of g) (tail g)
-first_part line rest κ g cut w =
-    let same = opens_same κ (kind_of g) rest (decimal (first_of g) ++ tail g) (sym cut ∙ w.is) in
-    subst (λ s. Begins 9999 s (first_of g) (tail g)) (sym same.1) (first_begins g w.writable)
-
 -- of a kind on one qubit, nothing comes after the first number
 pub single_tail : (κ : Kind) (g : Gate) → double κ ≡ false → κ ≡ kind_of g → Writable g → tail g ≡ []
 single_tail κ (one j k a) d e w = refl
@@ -131,17 +125,3 @@ writes_same line g h p q =
     from (two κ k a b) (two j m c d) w v e f t =
         let same = tail_same κ k b m d w.k (ap (λ i. k_suits i m) e ∙ v.k) w.second v.second (t ∙ ap (λ i. codes ",q" ++ (decimal d ++ ending i m)) (sym e)) in
         λ i. two (e i) (same.1 i) (f i) (same.0 i)
-
--- a line that was cut into its parts writes the gate of the parts
-pub one_written : (line rest after : List ℕ) (κ : Kind) (a : ℕ) → line ≡ name κ ++ (codes " q" ++ rest) → Begins 9999 rest a after → double κ ≡ false → after ≡ [] → Writes line (one κ 0 a)
-one_written line rest after κ a cut b single none = record {
-  writable = record { places = sym single; k = none_suits κ (single_not κ single); first = omega (arith, b.small); second = omega (arith, b.small) };
-  is = cut ∙ ap (λ s. name κ ++ (codes " q" ++ s)) (b.split ∙ ap (λ s. decimal a ++ s) none);
-}
-
-pub two_written : (line rest after : List ℕ) (κ : Kind) (k a b : ℕ) → line ≡ name κ ++ (codes " q" ++ rest) → Begins 9999 rest a after → double κ ≡ true →
-    b < 10000 → k_suits κ k ≡ true → after ≡ codes ",q" ++ (decimal b ++ ending κ k) → Writes line (two κ k a b)
-two_written line rest after κ k a b cut h pair small suits is = record {
-  writable = record { places = sym pair; k = suits; first = omega (arith, h.small); second = small };
-  is = cut ∙ ap (λ s. name κ ++ (codes " q" ++ s)) (h.split ∙ ap (λ s. decimal a ++ s) is);
-}

@@ -1,16 +1,9 @@
-use Rattle.std.proofs.Common.{codes, Some, None, sym, ◌∙◌, arith}
+use Rattle.std.proofs.Common.{codes, Some, sym, ◌∙◌, arith}
 use Rattle.std.proofs.lemmas.Bool.Decides.{Decides-eqb}
 use Rattle.std.proofs.lemmas.List.{append_cancel_left}
 use Rattle.std.proofs.lemmas.Slice.Eq.{strip_prefix_is}
 use Rattle.lines.proofs.Decimal.{same_number}
 use Rattle.lines.proofs.operands.turn.Goals as goal
-
-pub returns-in_err-rest : goal.returns-in_err-rest
-returns-in_err-rest c = rw c.from_residual.ensures (λ k some few. strip_prefix_is Decides-eqb c.args.s.now (codes ",") None c.in_err-rest.ensures.cases _)
-
-pub returns-in_err-k : goal.returns-in_err-k
-returns-in_err-k c = rw c.from_residual-in_err-k.ensures (λ k some few e.
-    c.in_err-k.ensures k (omega arith) (append_cancel_left (codes ",") _ _ (sym (strip_prefix_is Decides-eqb c.args.s.now (codes ",") (Some c.in_ok-rest.rest) c.in_ok-rest.ensures.cases) ∙ e)))
 
 pub returns-else-k-ge1 : goal.returns-else-k-ge1
 returns-else-k-ge1 c k some few e =
