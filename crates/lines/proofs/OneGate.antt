@@ -7,7 +7,7 @@ use Rattle.rows.specs.Steps.{Gate, one, two, kind_of, first_of}
 use Rattle.lines.specs.Number.{Digit, Unlike, Begins}
 use Rattle.lines.specs.Grammar.{ending, tail, Writable, Writes}
 use Rattle.lines.proofs.Decimal.{begins_same, same_number}
-use Rattle.lines.proofs.Suits.{crk_bounds, crk_ending, none_suits, none_zero, none_ending, single_not}
+use Rattle.lines.proofs.Suits.{crk_bounds, crk_ending, none_zero, none_ending, single_not}
 
 -- a number that tells the names apart, from the bytes before the first space
 abbrev key : ℕ → List ℕ → ℕ
