@@ -2,7 +2,8 @@
 use Rattle.std.proofs.Common.{◌≡◌, ℕ, ◌<◌, ◌≤◌, max, false, List, [], length, get_or, take, replicate, sym, refl, ap, ◌∙◌, arith}
 use Rattle.std.proofs.lemmas.List.{get_or-take, take-replicate}
 use Rattle.std.proofs.lemmas.Bool.Decides.{nat_tests}
-use Rattle.rows.specs.declared.row.Operation.{Operation}
+use Rattle.rows.specs.declared.place.Logical.{Logical}
+use Rattle.rows.specs.declared.placed.Placed.{Placed}
 use Rattle.rows.specs.Steps.{Gate, one, two, Step, gate, swap, GoodStep, fits, gate_at, first_wire, second_wire}
 use Rattle.places.specs.Placing.{places_of}
 use Rattle.places.proofs.Placing.{places_length}
@@ -49,18 +50,18 @@ module _ (b : Book) (l : SheetLog) (h : Holds b l) where
   turn_none t other none = none_ordered p l good placed b.log.done h.done long t other
       (λ g f e. none g (ap (λ (n : ℕ). fits n g) qubits ∙ f) (e ∙ ap (λ (ps : List ℕ). gate (at ps g)) h.places))
 
-  brings : (t : Step) (g : Operation) → Brings (places_of b.log.places) b.log.places.qubits t g → Brings l.places (length p.first) t g
+  brings : (t : Step) (g : Placed Logical) → Brings (places_of b.log.places) b.log.places.qubits t g → Brings l.places (length p.first) t g
   brings t g x = record {
     first = omega (arith, x.first, qubits);
     second = omega (arith, x.second, qubits);
     same = x.same ∙ ap (λ (ps : List ℕ). gate (at ps (gate_at g))) (sym h.places);
   }
 
-  pub turn_not : (t : Step) (g : Operation) → Brings (places_of b.log.places) b.log.places.qubits t g →
+  pub turn_not : (t : Step) (g : Placed Logical) → Brings (places_of b.log.places) b.log.places.qubits t g →
       ((i : ℕ) → ¬ NextOf p.gates b.log.done (gate_at g) i) → ¬ Ordered p l t
   turn_not t g x none = not_ordered p l good placed b.log.done h.done long t g (brings t g x) none
 
-  pub turn_is : (t : Step) (g : Operation) (i : ℕ) → Brings (places_of b.log.places) b.log.places.qubits t g →
+  pub turn_is : (t : Step) (g : Placed Logical) (i : ℕ) → Brings (places_of b.log.places) b.log.places.qubits t g →
       NextOf p.gates b.log.done (gate_at g) i → (e : Gate) × (t ≡ gate e) × Next p l e i
   turn_is t g i x n = (at l.places (gate_at g), (brings t g x).same, next_in p l good placed b.log.done h.done long (gate_at g) i n)
 

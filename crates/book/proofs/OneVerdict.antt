@@ -1,11 +1,10 @@
 -- Exactly one answer fits a sheet and a step.
 use Rattle.std.proofs.Common.{◌≡◌, ℕ, Ok, Err, Result, sym, ap, ◌∙◌, subst, arith}
-use Rattle.rows.specs.declared.place.Wire.{Wire}
 use Rattle.rows.specs.declared.row.Step.{Step as StepRow}
-use Rattle.rows.specs.declared.row.Action.{Action}
 use Rattle.rows.specs.declared.refusal.Fault.{Fault}
 use Rattle.rows.specs.Steps.{Gate, Step, gate, swap, step_at}
 use Rattle.rows.proofs.OneRefusal.{turned_same}
+use Rattle.rows.proofs.Same.{same_wire, step_at_same}
 use Rattle.sheet.specs.Sheets.{Plan, Log as SheetLog, starting, end, Next}
 use Rattle.sheet.specs.Refusals.{StepFits}
 use Rattle.sheet.specs.Runs.{Reached}
@@ -14,24 +13,6 @@ use Rattle.theory.proofs.Sheets.{laid_good, next_same, reached_places}
 use Rattle.book.specs.declared.verdict.Turn.{Turn}
 use Rattle.book.specs.declared.verdict.Verdict.{Verdict}
 use Rattle.book.specs.Books.{Takes, Judges}
-
-same_wire : (a b : Wire) → a.0 ≡ b.0 → a ≡ b
-same_wire a b e = λ i. record { 0 = e i }
-
--- a step at wires is one action
-pub step_at_same : (a b : Action) → step_at a ≡ step_at b → a ≡ b
-step_at_same (Action.One κ k a) (Action.One λ' j b) e =
-    let p : κ ≡ λ' = cc in let q : k ≡ j = cc in let r : a.0 ≡ b.0 = cc in λ i. Action.One (p i) (q i) (same_wire a b r i)
-step_at_same (Action.One κ k a) (Action.Two λ' j b c) e = let z : ◌≡◌ {A = ℕ} 0 1 = cc in absurd (omega arith)
-step_at_same (Action.One κ k a) (Action.Exchange b c) e = let z : ◌≡◌ {A = ℕ} 0 1 = cc in absurd (omega arith)
-step_at_same (Action.Two κ k a d) (Action.One λ' j b) e = let z : ◌≡◌ {A = ℕ} 0 1 = cc in absurd (omega arith)
-step_at_same (Action.Two κ k a d) (Action.Two λ' j b c) e =
-    let p : κ ≡ λ' = cc in let q : k ≡ j = cc in let r : a.0 ≡ b.0 = cc in let s : d.0 ≡ c.0 = cc in λ i. Action.Two (p i) (q i) (same_wire a b r i) (same_wire d c s i)
-step_at_same (Action.Two κ k a d) (Action.Exchange b c) e = let z : ◌≡◌ {A = ℕ} 0 1 = cc in absurd (omega arith)
-step_at_same (Action.Exchange a d) (Action.One λ' j b) e = let z : ◌≡◌ {A = ℕ} 0 1 = cc in absurd (omega arith)
-step_at_same (Action.Exchange a d) (Action.Two λ' j b c) e = let z : ◌≡◌ {A = ℕ} 0 1 = cc in absurd (omega arith)
-step_at_same (Action.Exchange a d) (Action.Exchange b c) e =
-    let r : a.0 ≡ b.0 = cc in let s : d.0 ≡ c.0 = cc in λ i. Action.Exchange (same_wire a b r i) (same_wire d c s i)
 
 gate_same : (g h : Gate) → gate g ≡ gate h → g ≡ h
 gate_same g h e = cc

@@ -3,7 +3,8 @@ use Rattle.std.proofs.Common.{◌≡◌, ℕ, ◌<◌, ◌≤◌, Bool, true, fa
 use Rattle.std.proofs.lemmas.List.{get_or-take, get_or_default}
 use Rattle.std.proofs.lemmas.Bool.Decides.{nat_tests}
 use Rattle.rows.specs.declared.kind.Kind.{Kind}
-use Rattle.rows.specs.declared.row.Operation.{Operation}
+use Rattle.rows.specs.declared.place.Logical.{Logical}
+use Rattle.rows.specs.declared.placed.Placed.{Placed}
 use Rattle.rows.specs.Steps.{Gate, one, two, Step, gate, swap, fits, shares, first_of, second_of, gate_at}
 use Rattle.sheet.specs.Sheets.{Plan, Log as SheetLog, at, Next, Ordered}
 use Rattle.sheet.specs.Runs.{GoodPlaces, GoodPlan}
@@ -75,7 +76,7 @@ module _ (p : Plan) (l : SheetLog) (good : GoodPlan p) (placed : GoodPlaces p.ch
   none_ordered (gate g) other none (i, x) = none (get_or p.gates i (one Kind.X 0 0)) (good.gates i x.front.listed).fitting (ap gate (sym x.same))
   none_ordered (swap a b) other none o = other a b refl
 
-  pub not_ordered : (t : Step) (g : Operation) → Brings l.places (length p.first) t g → ((i : ℕ) → ¬ NextOf p.gates done (gate_at g) i) → ¬ Ordered p l t
+  pub not_ordered : (t : Step) (g : Placed Logical) → Brings l.places (length p.first) t g → ((i : ℕ) → ¬ NextOf p.gates done (gate_at g) i) → ¬ Ordered p l t
   not_ordered (gate e) g b none (i, x) =
       none i (next_out (gate_at g) i b.first b.second (subst (λ (h : Gate). Next p l h i) (gate_same e (at l.places (gate_at g)) b.same) x))
   not_ordered (swap c d) g b none o = swap_not_gate c d _ b.same

@@ -1,7 +1,8 @@
 -- What the calls of a book answer, by the sheets that it agrees with.
 use Rattle.std.specs.Prelude.{◌≡◌, ℕ, ◌<◌, true, List, length, Some, Ok, Err, Result}
 use Rattle.rows.specs.declared.row.Step.{Step as StepRow}
-use Rattle.rows.specs.declared.row.Operation.{Operation}
+use Rattle.rows.specs.declared.place.Logical.{Logical}
+use Rattle.rows.specs.declared.placed.Placed.{Placed}
 use Rattle.rows.specs.declared.row.Action.{Action}
 use Rattle.rows.specs.declared.refusal.Fault.{Fault}
 use Rattle.rows.specs.Refusals.{Accepted, Turned}
@@ -34,7 +35,7 @@ Takes p l t (Turn.Gate i) = (g : Gate) × (t ≡ gate g) × Next p l g i
 Takes p l t (Turn.Exchange a b) = t ≡ swap a.0 b.0
 
 -- the step is a gate on the qubits, of so many, that its wires hold at these places
-pub record Brings (places : List ℕ) (qubits : ℕ) (t : Step) (g : Operation) : Type 0 where
+pub record Brings (places : List ℕ) (qubits : ℕ) (t : Step) (g : Placed Logical) : Type 0 where
   pub first : first_of (gate_at g) < qubits
   pub second : second_of (gate_at g) < qubits
   pub same : t ≡ gate (at places (gate_at g))

@@ -14,7 +14,7 @@ fn ability_of(width: u8, kinds: Option<&[u8]>) -> Ability {
     };
     let mut ability = Ability::none(width);
     for number in numbers {
-        if let Some(kind) = Kind::of(*number) {
+        if let Ok(kind) = Kind::try_from(*number) {
             ability.learn(kind);
         }
     }

@@ -11,7 +11,7 @@ use rows::{Gate as GateRow, Kind, Wire};
 fn apply<M: Machine>(machine: &mut M, row: GateRow)
     ensures { (n : ℕ) (g : Gate) → gate_of n row ≡ Some g → M.Machine.means machine.new ≡ M.Machine.acts.gated g (M.Machine.means machine.old) }
 {
-    if let Some(kind) = Kind::of(row.kind) {
+    if let Ok(kind) = Kind::try_from(row.kind) {
         machine.gate(kind, Wire(row.first.0), Wire(row.second.0), row.k);
     }
 }

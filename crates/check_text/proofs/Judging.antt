@@ -16,7 +16,7 @@ use Rattle.plan.specs.Laying.{plan_in, layout, Fits, LaysPlan}
 use Rattle.book.specs.declared.book.Book.{Book}
 use Rattle.book.specs.declared.verdict.Counts.{Counts}
 use Rattle.book.specs.Books.{Holds}
-use Rattle.step_text.specs.StepLines.{refusal_line}
+use Rattle.rows.specs.Printed.{refusal_line}
 use Rattle.audit.specs.declared.trial.Trial.{Trial}
 use Rattle.audit.specs.Audits.{Plays, Clears}
 use Rattle.std.specs.Prelude.{String}

@@ -3,7 +3,7 @@ use Rattle.std.specs.Prelude.{ℕ, List, ◌++◌, Some, None, Ok, Err, codes, d
 use Rattle.std.specs.List.{flat_map}
 use Rattle.rows.specs.declared.refusal.Fault.{Fault}
 use Rattle.book.specs.declared.verdict.Counts.{Counts}
-use Rattle.step_text.specs.StepLines.{refusal_line}
+use Rattle.rows.specs.Printed.{refusal_line}
 use Rattle.audit.specs.declared.trial.Trial.{Trial}
 
 -- the line of an answer: `kept`, or the refusal's number and place

@@ -12,7 +12,7 @@ use Rattle.sheet.specs.Sheets.{Plan, Log, Layout, unlaid, plan_of, fresh}
 use Rattle.sheet.specs.Refusals.{LayFits}
 use Rattle.plan.specs.Laying.{layout}
 use Rattle.book.specs.declared.verdict.Counts.{Counts}
-use Rattle.step_text.specs.StepLines.{refusal_line}
+use Rattle.rows.specs.Printed.{refusal_line}
 use Rattle.audit.specs.declared.trial.Trial.{Trial}
 use Rattle.audit.specs.Audits.{Answered, Clears}
 use Rattle.check_text.specs.declared.error.CheckError.{CheckError}

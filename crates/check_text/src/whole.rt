@@ -4,7 +4,7 @@ ghost use Rattle.rows.specs.Steps.{Gate, row_of_gate};
 ghost use Rattle.sheet.specs.Sheets.{Log as SheetLog};
 ghost use Rattle.plan.specs.Laying.{plan_in};
 ghost use Rattle.book.specs.Books.{Holds};
-ghost use Rattle.step_text.specs.StepLines.{refusal_line};
+ghost use Rattle.rows.specs.Printed.{refusal_line};
 ghost use Rattle.check_text.specs.Replies.{in_order, Judged, CircuitOf, Replies};
 
 use crate::cut::circuit_part;

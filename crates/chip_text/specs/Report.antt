@@ -3,7 +3,7 @@ use Rattle.std.specs.Prelude.{◌≡◌, ℕ, zero, suc, ◌+◌, ◌<◌, max, 
 use Rattle.rows.specs.declared.kind.Kind.{Kind}
 use Rattle.rows.specs.declared.refusal.Fault.{Fault}
 use Rattle.rows.specs.Kinds.{coded, name}
-use Rattle.rows.specs.Numbers.{number}
+use Rattle.rows.specs.Printed.{refusal_line}
 use Rattle.rows.specs.Refusals.{Accepted, Turned}
 use Rattle.chip.specs.Charts.{Chart, chart, Distance, ChipFits}
 
@@ -85,18 +85,11 @@ chip_text c far =
     wires_line c.wires
     ++ (couplings c ++ (durations c ++ (distances c.wires far ++ (diameter_line (diameter c.wires far) ++ degrees c))))
 
-abbrev pub refusal_line : ℕ → ℕ → List ℕ
-refusal_line n place = codes "refused " ++ (decimal n ++ (codes " " ++ (decimal place ++ codes "\n")))
-
--- the text of a refusal: its number and its place
-abbrev pub refusal_text : Fault → List ℕ
-refusal_text f = refusal_line (number f.refusal) f.place
-
 -- the text for n wires and record bytes: of the chip if no condition of refusal holds, else of the refusal to be answered
 abbrev pub Text : ℕ → List ℕ → List ℕ → Type 0
 Text n bs out =
     (Accepted (ChipFits n bs) × ((far : ℕ → ℕ → ℕ) × Far (chart n bs) far × (out ≡ chip_text (chart n bs) far)))
-    ⊎ ((f : Fault) × Turned (ChipFits n bs) f × (out ≡ refusal_text f))
+    ⊎ ((f : Fault) × Turned (ChipFits n bs) f × (out ≡ refusal_line f))
 
 -- the text for an input: its first byte is the number of wires, 0 if it is empty, the others are the records
 abbrev pub Printed : List ℕ → List ℕ → Type 0

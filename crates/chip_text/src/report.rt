@@ -1,7 +1,8 @@
 // The whole text for an input.
 ghost use Rattle.std.specs.Prelude.{◌≡◌, ℕ, ◌++◌, IfOk, string_bytes, OnOk};
+ghost use Rattle.rows.specs.Printed.{refusal_line};
 ghost use Rattle.chip.specs.Chips.{chart_of};
-ghost use Rattle.chip_text.specs.Report.{wires_line, diameter_line, Far, chip_text, refusal_line, refusal_text, Text, Printed};
+ghost use Rattle.chip_text.specs.Report.{wires_line, diameter_line, Far, chip_text, Text, Printed};
 
 use crate::counts::diameter;
 use crate::sections::{couplings, degrees, distances, durations};
@@ -37,17 +38,11 @@ fn describe(heap: Global, chip: &Chip) -> Result<String, AllocError>
     Ok(out)
 }
 
-fn refusal_line(heap: Global, number: u8, place: usize) -> Result<String, AllocError>
-    ensures { IfOk result (λ t. string_bytes t ≡ refusal_line number place) }
-{
-    format!(in heap; "refused {number} {place}\n")
-}
-
 /// The line of a refusal: its number and its place.
 fn refusal(heap: Global, fault: Fault) -> Result<String, AllocError>
-    ensures { IfOk result (λ t. string_bytes t ≡ refusal_text fault) }
+    ensures { IfOk result (λ t. string_bytes t ≡ refusal_line fault) }
 {
-    refusal_line(heap, fault.number(), fault.place)
+    format!(in heap; "{fault}\n")
 }
 
 /// The text for so many wires and the bytes of records.

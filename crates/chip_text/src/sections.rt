@@ -52,9 +52,9 @@ fn duration(out: &mut String, heap: Global, chip: &Chip, code: u8) -> Result<(),
     requires { (1 ≤ code) × (code ≤ 12) }
     ensures { OnOk result (string_bytes out.new ≡ string_bytes out.old ++ duration_line (kind_name (coded code)) ((chart_of chip.now).cycles code)) }
 {
-    match Kind::of(code) {
-        Some(kind) => duration_line(out, heap, kind.name(), chip.duration(kind)),
-        None => duration_line(out, heap, "swap", chip.exchange_duration()),
+    match Kind::try_from(code) {
+        Ok(kind) => duration_line(out, heap, kind.name(), chip.duration(kind)),
+        Err(_) => duration_line(out, heap, "swap", chip.exchange_duration()),
     }
 }
 

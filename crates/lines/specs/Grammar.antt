@@ -3,8 +3,8 @@ use Rattle.std.specs.Prelude.{◌≡◌, ℕ, ◌<◌, ◌≤◌, Bool, true, fa
 use Rattle.rows.specs.declared.kind.Kind.{Kind}
 use Rattle.rows.specs.declared.refusal.Refusal.{Refusal}
 use Rattle.rows.specs.Kinds.{double, name, turns, k_suits}
-use Rattle.rows.specs.Steps.{Gate, one, two, kind_of, k_of, first_of, second_of}
-use Rattle.lines.specs.declared.written.Written.{Written}
+use Rattle.rows.specs.Steps.{Gate, one, two, kind_of, k_of, first_of, second_of, placed}
+use Rattle.rows.specs.declared.placed.Placed.{Placed}
 
 -- the line that gives the number of qubits: `qubits 7`
 abbrev pub heading : ℕ → List ℕ
@@ -65,6 +65,5 @@ pub data LineFits (n left : ℕ) (line : List ℕ) (at : ℕ) : Refusal → ℕ 
   no_row : left ≡ 0 → LineFits n left line at Refusal.NoRow at
 
 -- the gate that a line was read as
-abbrev pub gate_in : Written → Gate
-gate_in (Written.One κ a) = one κ 0 a
-gate_in (Written.Two κ k a b) = two κ k a b
+abbrev pub gate_in : Placed ℕ → Gate
+gate_in g = placed (λ a. a) g

@@ -13,7 +13,7 @@ fn is_within(gate: Written, n: u8) -> bool
     ensures { MatchBool result (Within n (gate_in gate)) (¬ Within n (gate_in gate)) }
 {
     match gate {
-        Written::One(_, a) => a < n as u32,
+        Written::One(_, _, a) => a < n as u32,
         Written::Two(_, _, a, b) => a < n as u32 && b < n as u32,
     }
 }
@@ -23,7 +23,7 @@ fn is_doubled(gate: Written) -> bool
     ensures { MatchBool result (Doubled (gate_in gate)) (¬ Doubled (gate_in gate)) }
 {
     match gate {
-        Written::One(_, _) => false,
+        Written::One(_, _, _) => false,
         Written::Two(_, _, a, b) => a == b,
     }
 }
@@ -34,7 +34,7 @@ fn on_qubits(gate: Written, n: u8) -> Operation
     ensures { gate_at result ≡ gate_in gate }
 {
     match gate {
-        Written::One(kind, a) => Operation::One(kind, 0, Logical(a as u8)),
+        Written::One(kind, k, a) => Operation::One(kind, k, Logical(a as u8)),
         Written::Two(kind, k, a, b) => {
             Operation::Two(kind, k, Logical(a as u8), Logical(b as u8))
         }
@@ -49,10 +49,7 @@ fn within(line: &[u8], at: usize, qubits: u8, left: usize, gate: Written) -> Res
     if is_within(gate, qubits) {
         return Ok(());
     }
-    Err(Fault {
-        refusal: Refusal::OffCircuit,
-        place: at,
-    })
+    Err(Refusal::OffCircuit.at(at))
 }
 
 // Refuses a gate that names one qubit twice.
@@ -62,10 +59,7 @@ fn apart(line: &[u8], at: usize, qubits: u8, left: usize, gate: Written) -> Resu
     ensures { MatchResult result (λ _. ¬ Doubled (gate_in gate)) (λ f. Turned (LineFits qubits left line.now at) f) }
 {
     if is_doubled(gate) {
-        return Err(Fault {
-            refusal: Refusal::Twice,
-            place: at,
-        });
+        return Err(Refusal::Twice.at(at));
     }
     Ok(())
 }
@@ -78,10 +72,7 @@ fn row_left(line: &[u8], at: usize, qubits: u8, left: usize, gate: Written) -> R
     ensures { MatchResult result (λ _. Accepted (LineFits qubits left line.now at)) (λ f. Turned (LineFits qubits left line.now at) f) }
 {
     if left == 0 {
-        return Err(Fault {
-            refusal: Refusal::NoRow,
-            place: at,
-        });
+        return Err(Refusal::NoRow.at(at));
     }
     Ok(())
 }
@@ -92,10 +83,7 @@ fn readable(line: &[u8], at: usize, qubits: u8, left: usize) -> Result<Written, 
 {
     match parse_gate(line) {
         Some(gate) => Ok(gate),
-        None => Err(Fault {
-            refusal: Refusal::Unreadable,
-            place: at,
-        }),
+        None => Err(Refusal::Unreadable.at(at)),
     }
 }
 

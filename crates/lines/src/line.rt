@@ -18,7 +18,7 @@ pub(crate) fn parse_gate(line: &[u8]) -> Option<Written>
         let (other, k) = second(kind, rest)?;
         Some(Written::Two(kind, k, first, other))
     } else if rest.is_empty() {
-        Some(Written::One(kind, first))
+        Some(Written::One(kind, 0, first))
     } else {
         None
     }

@@ -23,7 +23,7 @@ fn turn(s: &[u8]) -> Option<u8>
 fn angle(kind: Kind, s: &[u8]) -> Option<u8>
     ensures { MatchOption result ((k : ℕ) → k_suits kind k ≡ true → ¬ (s.now ≡ ending kind k)) (λ k. (k_suits kind k ≡ true) × (s.now ≡ ending kind k)) }
 {
-    if kind.code() == 11 {
+    if kind == Kind::Crk {
         turn(s)
     } else if s.is_empty() {
         Some(0)

@@ -4,7 +4,8 @@ use lib.ListN.{length-map}
 use Rattle.std.proofs.lemmas.List.{take_more, take_more_set, map-append, take_all, length-take-le, get_or-take, get_or-map}
 use Rattle.rows.specs.declared.kind.Kind.{Kind}
 use Rattle.rows.specs.declared.row.Gate.{Gate as GateRow}
-use Rattle.rows.specs.declared.row.Operation.{Operation}
+use Rattle.rows.specs.declared.place.Logical.{Logical}
+use Rattle.rows.specs.declared.placed.Placed.{Placed}
 use Rattle.rows.specs.declared.refusal.Refusal.{Refusal}
 use Rattle.rows.specs.declared.refusal.Fault.{Fault}
 use Rattle.rows.specs.Steps.{Gate, one, gate_at, gate_of, gates_of, gate_row}
@@ -23,7 +24,7 @@ gates_push n (x ∷ rs) r g e = go (gate_of n x) (gates_push n rs r g e)
     go (Some h) ih = ap (λ xs. h ∷ xs) ih
 
 -- one row more
-pub gates_more : (n : ℕ) (ops : List Operation) (rows : List GateRow) (i : ℕ) (op : Operation) → i < length ops → i < length rows →
+pub gates_more : (n : ℕ) (ops : List (Placed Logical)) (rows : List GateRow) (i : ℕ) (op : Placed Logical) → i < length ops → i < length rows →
     map gate_at (take i ops) ≡ gates_of n (take i rows) → Some (gate_at op) ≡ gate_of n (row_number rows i) →
     map gate_at (take (i + 1) (set ops i op)) ≡ gates_of n (take (i + 1) rows)
 gates_more n ops rows i op l k e d =
@@ -65,8 +66,8 @@ module _ (c : Circuit) where
   pub gates_length : length (gates_in c) ≡ c.count
   gates_length = length-map (take c.count c.gates) gate_at ∙ length-take-le c.count c.gates (omega (arith, c.few, c.long))
 
-  pub gates_at : (i : ℕ) → i < c.count → get_or (gates_in c) i (one Kind.X 0 0) ≡ gate_at (get_or c.gates i (Operation.One Kind.X 0 (record { 0 = 0 })))
+  pub gates_at : (i : ℕ) → i < c.count → get_or (gates_in c) i (one Kind.X 0 0) ≡ gate_at (get_or c.gates i (Placed.One Kind.X 0 (record { 0 = 0 })))
   gates_at i h =
-      get_or-map gate_at (take c.count c.gates) i (Operation.One Kind.X 0 (record { 0 = 0 })) (one Kind.X 0 0)
+      get_or-map gate_at (take c.count c.gates) i (Placed.One Kind.X 0 (record { 0 = 0 })) (one Kind.X 0 0)
       (omega (arith, length-take-le c.count c.gates (omega (arith, c.few, c.long))))
-      ∙ ap gate_at (get_or-take c.count c.gates i (Operation.One Kind.X 0 (record { 0 = 0 })) h)
+      ∙ ap gate_at (get_or-take c.count c.gates i (Placed.One Kind.X 0 (record { 0 = 0 })) h)

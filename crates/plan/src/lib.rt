@@ -4,7 +4,6 @@
 
 mod ability;
 mod circuit;
-mod operation;
 mod plan;
 
 pub use ability::Ability;

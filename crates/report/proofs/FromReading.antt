@@ -8,7 +8,8 @@ use Rattle.text.specs.declared.circuit.Circuit.{Circuit}
 use Rattle.text.specs.Reading.{Statement, statements_of, IsCircuit, IsRefused, room, Reading}
 use Rattle.text.proofs.Decoding.{circuit_fits, circuit_decodes}
 use Rattle.chains.specs.Chained.{Decodes}
-use Rattle.report.specs.Report.{Shows, refusal_line, Reports, circuit, refused}
+use Rattle.rows.specs.Printed.{refusal_line}
+use Rattle.report.specs.Report.{Shows, Reports, circuit, refused}
 
 pub made_so : {X E : Type 0} (r : Result X E) (P Q : X → Type 0) → ((x : X) → P x → Q x) → IfOk r P → IfOk r Q
 made_so (Ok x) P Q f h = f x h

@@ -4,7 +4,7 @@ use Rattle.std.specs.List.{flat_map}
 use Rattle.rows.specs.declared.kind.Kind.{Kind}
 use Rattle.rows.specs.declared.refusal.Fault.{Fault}
 use Rattle.rows.specs.Kinds.{name}
-use Rattle.rows.specs.Numbers.{number}
+use Rattle.rows.specs.Printed.{refusal_line}
 use Rattle.rows.specs.Steps.{Gate}
 use Rattle.text.specs.Reading.{statements_of, IsCircuit, IsRefused}
 use Rattle.chains.specs.Chained.{Deep, Source, Counts}
@@ -46,10 +46,6 @@ counts_report n gs d =
 -- the report is that of a circuit of n qubits with these gates
 abbrev pub Shows : ℕ → List Gate → List ℕ → Type 0
 Shows n gs out = (d : ℕ) × (lines : List ℕ) × Deep n gs d × QubitLines n gs n lines × (out ≡ counts_report n gs d ++ lines)
-
--- the line of a refusal: `refused 2 7`, its number and its place
-abbrev pub refusal_line : Fault → List ℕ
-refusal_line f = codes "refused " ++ (decimal (number f.refusal) ++ (codes " " ++ (decimal f.place ++ codes "\n")))
 
 -- what is printed of a text, read into 1,024 rows
 pub data Reports (text : List ℕ) : List ℕ → Type 0 where

@@ -1,10 +1,11 @@
 // The lines of the report.
 ghost use Rattle.std.specs.Prelude.{◌≡◌, ℕ, ◌<◌, ◌≤◌, List, ◌++◌, length, IfOk, string_bytes, OnOk};
 ghost use Rattle.std.specs.List.{flat_map};
+ghost use Rattle.rows.specs.Printed.{refusal_line};
 ghost use Rattle.rows.specs.Steps.{Gate};
 ghost use Rattle.chains.specs.Chained.{Decodes, Deep, Source, Counts};
 ghost use Rattle.chains.specs.Sourced.{Sourced};
-ghost use Rattle.report.specs.Report.{entry, kinds, kind_line, qubit_line, QubitLines, counts_report, Shows, refusal_line};
+ghost use Rattle.report.specs.Report.{entry, kinds, kind_line, qubit_line, QubitLines, counts_report, Shows};
 
 use crate::count::count;
 use crate::feature::Feature;
@@ -126,8 +127,5 @@ pub(crate) fn show_circuit(heap: Global, qubits: u8, rows: &[GateRow]) -> Result
 pub(crate) fn show_refusal(heap: Global, fault: Fault) -> Result<String, AllocError>
     ensures { IfOk result (λ s. string_bytes s ≡ refusal_line fault) }
 {
-    let number = fault.number();
-    let place = fault.place;
-    let line = format!(in heap; "refused {number} {place}\n")?;
-    Ok(line)
+    format!(in heap; "{fault}\n")
 }

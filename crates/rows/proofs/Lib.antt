@@ -1,2 +1,3 @@
 pub mod OneRefusal
 pub mod Decoding
+pub mod Same

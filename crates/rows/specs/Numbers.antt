@@ -1,6 +1,7 @@
 -- The numbers, layers and ranks of refusals.
 use Rattle.std.specs.Prelude.{ℕ}
 use Rattle.rows.specs.declared.refusal.Refusal.{Refusal}
+use Rattle.rows.specs.declared.refusal.Layer.{Layer}
 
 abbrev pub number : Refusal → ℕ
 number Refusal.NoCircuit = 1
@@ -28,32 +29,43 @@ number Refusal.RowsOut = 22
 number Refusal.Open = 23
 number Refusal.NoQubit = 24
 
--- 1 text, 2 chip, 3 bench, 4 route
+-- the number of a layer
+abbrev pub layer_number : Layer → ℕ
+layer_number Layer.Text = 1
+layer_number Layer.Chip = 2
+layer_number Layer.Bench = 3
+layer_number Layer.Route = 4
+
+-- the layer that refuses
+abbrev pub layer_of : Refusal → Layer
+layer_of Refusal.NoCircuit = Layer.Text
+layer_of Refusal.Unreadable = Layer.Text
+layer_of Refusal.OffCircuit = Layer.Text
+layer_of Refusal.Twice = Layer.Text
+layer_of Refusal.NoRow = Layer.Text
+layer_of Refusal.LaidAlready = Layer.Bench
+layer_of Refusal.RaggedChip = Layer.Chip
+layer_of Refusal.BadRecord = Layer.Chip
+layer_of Refusal.NoDuration = Layer.Chip
+layer_of Refusal.Parted = Layer.Chip
+layer_of Refusal.BadPlaces = Layer.Bench
+layer_of Refusal.BadGate = Layer.Bench
+layer_of Refusal.Narrow = Layer.Bench
+layer_of Refusal.UnknownKind = Layer.Bench
+layer_of Refusal.Unlaid = Layer.Bench
+layer_of Refusal.BadStep = Layer.Bench
+layer_of Refusal.Uncoupled = Layer.Bench
+layer_of Refusal.Busy = Layer.Bench
+layer_of Refusal.Late = Layer.Bench
+layer_of Refusal.NotNext = Layer.Bench
+layer_of Refusal.Full = Layer.Bench
+layer_of Refusal.RowsOut = Layer.Route
+layer_of Refusal.Open = Layer.Bench
+layer_of Refusal.NoQubit = Layer.Bench
+
+-- the number of the layer that refuses: 1 text, 2 chip, 3 bench, 4 route
 abbrev pub layer : Refusal → ℕ
-layer Refusal.NoCircuit = 1
-layer Refusal.Unreadable = 1
-layer Refusal.OffCircuit = 1
-layer Refusal.Twice = 1
-layer Refusal.NoRow = 1
-layer Refusal.LaidAlready = 3
-layer Refusal.RaggedChip = 2
-layer Refusal.BadRecord = 2
-layer Refusal.NoDuration = 2
-layer Refusal.Parted = 2
-layer Refusal.BadPlaces = 3
-layer Refusal.BadGate = 3
-layer Refusal.Narrow = 3
-layer Refusal.UnknownKind = 3
-layer Refusal.Unlaid = 3
-layer Refusal.BadStep = 3
-layer Refusal.Uncoupled = 3
-layer Refusal.Busy = 3
-layer Refusal.Late = 3
-layer Refusal.NotNext = 3
-layer Refusal.Full = 3
-layer Refusal.RowsOut = 4
-layer Refusal.Open = 3
-layer Refusal.NoQubit = 3
+layer r = layer_number (layer_of r)
 
 -- the order in which conditions are judged: of those that hold, the lowest rank is answered
 abbrev pub rank : Refusal → ℕ

@@ -1,5 +1,5 @@
 -- How a call that checks many conditions answers. `Fits r q` says that the condition of refusal r holds at place q.
-use Rattle.std.specs.Prelude.{◌≡◌, ℕ, ◌<◌}
+use Rattle.std.specs.Prelude.{ℕ, ◌<◌}
 use Rattle.rows.specs.declared.refusal.Refusal.{Refusal}
 use Rattle.rows.specs.declared.refusal.Fault.{Fault}
 use Rattle.rows.specs.Numbers.{rank}

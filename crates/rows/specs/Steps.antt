@@ -3,7 +3,8 @@ use Rattle.std.specs.Prelude.{◌≡◌, ℕ, Bool, true, false, cond, not, ◌&
 use Rattle.rows.specs.declared.kind.Kind.{Kind}
 use Rattle.rows.specs.declared.row.Gate.{Gate as GateRow}
 use Rattle.rows.specs.declared.row.Step.{Step as StepRow}
-use Rattle.rows.specs.declared.row.Operation.{Operation}
+use Rattle.rows.specs.declared.place.Logical.{Logical}
+use Rattle.rows.specs.declared.placed.Placed.{Placed}
 use Rattle.rows.specs.declared.row.Action.{Action}
 use Rattle.rows.specs.Kinds.{code, coded, double, k_suits}
 
@@ -131,14 +132,17 @@ written (swap a b) s = step_row 12 a b 0 s
 abbrev pub row_of : Timed → StepRow
 row_of t = written t.step t.start
 
+-- the gate at places that have these numbers
+abbrev pub placed : {P : Type 0} → (P → ℕ) → Placed P → Gate
+placed number (Placed.One κ k a) = one κ k (number a)
+placed number (Placed.Two κ k a b) = two κ k (number a) (number b)
+
 -- the gate and the step that a decoded row means
-abbrev pub gate_at : Operation → Gate
-gate_at (Operation.One κ k a) = one κ k a.0
-gate_at (Operation.Two κ k a b) = two κ k a.0 b.0
+abbrev pub gate_at : Placed Logical → Gate
+gate_at g = placed (λ q. q.0) g
 
 abbrev pub step_at : Action → Step
-step_at (Action.One κ k a) = gate (one κ k a.0)
-step_at (Action.Two κ k a b) = gate (two κ k a.0 b.0)
+step_at (Action.Gate g) = gate (placed (λ w. w.0) g)
 step_at (Action.Exchange a b) = swap a.0 b.0
 
 -- a gate of a circuit of n qubits, or on a chip of n wires: its places and its k are as they should be

@@ -1,61 +1,71 @@
 // The kinds of gates.
-ghost use Rattle.std.specs.Prelude.{◌≡◌};
-ghost use Rattle.rows.specs.Kinds.{code, coded, double, name};
+ghost use Rattle.std.specs.Prelude.{◌≡◌, Some};
+ghost use Rattle.rows.specs.Kinds.{code, double, name};
+ghost use Rattle.rows.specs.Coding.{KindCoded, no_kind_text};
 
-/// The eleven kinds of gates. The exchange of two wires, code 12 in a step row, is no gate.
-#[derive(Clone, Copy, Debug, PartialEq)]
+use std::error::Error;
+use std::fmt;
+
+/// The eleven kinds of gates, each with its code. The exchange of two wires, code 12 in a step row, is no gate.
+#[derive(Clone, Copy, Debug, PartialEq, Eq)]
 pub enum Kind {
-    X,
-    Y,
-    Z,
-    H,
-    S,
-    Sdag,
-    T,
-    Tdag,
-    Cnot,
-    Cz,
-    Crk,
+    X = 1,
+    Y = 2,
+    Z = 3,
+    H = 4,
+    S = 5,
+    Sdag = 6,
+    T = 7,
+    Tdag = 8,
+    Cnot = 9,
+    Cz = 10,
+    Crk = 11,
 }
 
-impl Kind {
-    /// The kind with this code, if there is one.
-    pub fn of(number: u8) -> Option<Kind>
-        ensures { result ≡ coded number }
-    {
+/// A number that is no kind's code.
+#[derive(Clone, Copy, Debug, PartialEq, Eq)]
+pub struct NoKind(pub u8);
+
+impl TryFrom<u8> for Kind {
+    type Error = NoKind;
+
+    ghost try_from_gives = { KindCoded };
+
+    /// The kind with this code, or the number if it is no kind's code.
+    fn try_from(number: u8) -> Result<Kind, NoKind> {
         match number {
-            1 => Some(Kind::X),
-            2 => Some(Kind::Y),
-            3 => Some(Kind::Z),
-            4 => Some(Kind::H),
-            5 => Some(Kind::S),
-            6 => Some(Kind::Sdag),
-            7 => Some(Kind::T),
-            8 => Some(Kind::Tdag),
-            9 => Some(Kind::Cnot),
-            10 => Some(Kind::Cz),
-            11 => Some(Kind::Crk),
-            _ => None,
+            1 => Ok(Kind::X),
+            2 => Ok(Kind::Y),
+            3 => Ok(Kind::Z),
+            4 => Ok(Kind::H),
+            5 => Ok(Kind::S),
+            6 => Ok(Kind::Sdag),
+            7 => Ok(Kind::T),
+            8 => Ok(Kind::Tdag),
+            9 => Ok(Kind::Cnot),
+            10 => Ok(Kind::Cz),
+            11 => Ok(Kind::Crk),
+            _ => Err(NoKind(number)),
         }
     }
+}
 
+impl fmt::Display for NoKind {
+    ghost output = { λ e. Some (no_kind_text e) };
+
+    fn fmt<W: fmt::Write>(&self, f: &mut fmt::Formatter<W>) -> fmt::Result {
+        write!(f, "no kind has code {}", self.0)
+    }
+}
+
+impl Error for NoKind {}
+
+impl Kind {
     /// The code of the kind in rows and chip records.
     pub fn code(self) -> u8
         ensures { result ≡ code self }
     {
-        match self {
-            Kind::X => 1,
-            Kind::Y => 2,
-            Kind::Z => 3,
-            Kind::H => 4,
-            Kind::S => 5,
-            Kind::Sdag => 6,
-            Kind::T => 7,
-            Kind::Tdag => 8,
-            Kind::Cnot => 9,
-            Kind::Cz => 10,
-            Kind::Crk => 11,
-        }
+        self as u8
     }
 
     /// The name of the kind in a circuit's text.
@@ -81,18 +91,14 @@ impl Kind {
     pub fn is_double(self) -> bool
         ensures { result ≡ double self }
     {
-        match self {
-            Kind::X => false,
-            Kind::Y => false,
-            Kind::Z => false,
-            Kind::H => false,
-            Kind::S => false,
-            Kind::Sdag => false,
-            Kind::T => false,
-            Kind::Tdag => false,
-            Kind::Cnot => true,
-            Kind::Cz => true,
-            Kind::Crk => true,
-        }
+        matches!(self, Kind::Cnot | Kind::Cz | Kind::Crk)
+    }
+}
+
+impl fmt::Display for Kind {
+    ghost output = { λ κ. Some (name κ) };
+
+    fn fmt<W: fmt::Write>(&self, f: &mut fmt::Formatter<W>) -> fmt::Result {
+        f.write_str(self.name())
     }
 }

@@ -4,12 +4,14 @@
 
 mod kind;
 mod place;
+mod placed;
 mod refusal;
 mod row;
 mod table;
 
-pub use kind::Kind;
-pub use place::{Logical, Wire};
-pub use refusal::{Fault, Refusal};
+pub use kind::{Kind, NoKind};
+pub use place::{Logical, Place, Wire};
+pub use placed::Placed;
+pub use refusal::{Fault, Layer, Refusal};
 pub use row::{Action, Gate, Operation, Step};
 pub use table::trade;

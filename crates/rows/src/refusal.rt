@@ -1,34 +1,55 @@
 // Why a call is refused, and where.
-ghost use Rattle.std.specs.Prelude.{◌≡◌};
-ghost use Rattle.rows.specs.Numbers.{number, layer, rank};
+ghost use Rattle.std.specs.Prelude.{◌≡◌, Some};
+ghost use Rattle.rows.specs.Numbers.{number, layer_number, layer_of, rank};
+ghost use Rattle.rows.specs.Printed.{refusal_text};
+
+use std::fmt;
 
 /// Why a call is refused: one case for each number.
-#[derive(Clone, Copy, Debug, PartialEq)]
+#[derive(Clone, Copy, Debug, PartialEq, Eq)]
 pub enum Refusal {
-    NoCircuit,
-    Unreadable,
-    OffCircuit,
-    Twice,
-    NoRow,
-    LaidAlready,
-    RaggedChip,
-    BadRecord,
-    NoDuration,
-    Parted,
-    BadPlaces,
-    BadGate,
-    Narrow,
-    UnknownKind,
-    Unlaid,
-    BadStep,
-    Uncoupled,
-    Busy,
-    Late,
-    NotNext,
-    Full,
-    RowsOut,
-    Open,
-    NoQubit,
+    NoCircuit = 1,
+    Unreadable = 2,
+    OffCircuit = 3,
+    Twice = 4,
+    NoRow = 5,
+    LaidAlready = 6,
+    RaggedChip = 7,
+    BadRecord = 8,
+    NoDuration = 9,
+    Parted = 10,
+    BadPlaces = 11,
+    BadGate = 12,
+    Narrow = 13,
+    UnknownKind = 14,
+    Unlaid = 15,
+    BadStep = 16,
+    Uncoupled = 17,
+    Busy = 18,
+    Late = 19,
+    NotNext = 20,
+    Full = 21,
+    RowsOut = 22,
+    Open = 23,
+    NoQubit = 24,
+}
+
+/// What refuses.
+#[derive(Clone, Copy, Debug, PartialEq, Eq)]
+pub enum Layer {
+    Text = 1,
+    Chip = 2,
+    Bench = 3,
+    Route = 4,
+}
+
+impl Layer {
+    /// The number by which the layer is known.
+    pub fn number(self) -> u8
+        ensures { result ≡ layer_number self }
+    {
+        self as u8
+    }
 }
 
 impl Refusal {
@@ -36,78 +57,59 @@ impl Refusal {
     pub fn number(self) -> u8
         ensures { result ≡ number self }
     {
-        match self {
-            Refusal::NoCircuit => 1,
-            Refusal::Unreadable => 2,
-            Refusal::OffCircuit => 3,
-            Refusal::Twice => 4,
-            Refusal::NoRow => 5,
-            Refusal::LaidAlready => 6,
-            Refusal::RaggedChip => 7,
-            Refusal::BadRecord => 8,
-            Refusal::NoDuration => 9,
-            Refusal::Parted => 10,
-            Refusal::BadPlaces => 11,
-            Refusal::BadGate => 12,
-            Refusal::Narrow => 13,
-            Refusal::UnknownKind => 14,
-            Refusal::Unlaid => 15,
-            Refusal::BadStep => 16,
-            Refusal::Uncoupled => 17,
-            Refusal::Busy => 18,
-            Refusal::Late => 19,
-            Refusal::NotNext => 20,
-            Refusal::Full => 21,
-            Refusal::RowsOut => 22,
-            Refusal::Open => 23,
-            Refusal::NoQubit => 24,
-        }
+        self as u8
     }
 
-    /// The layer that refuses: 1 text, 2 chip, 3 bench, 4 route.
-    pub fn layer(self) -> u8
-        ensures { result ≡ layer self }
+    /// The layer that refuses.
+    pub fn layer(self) -> Layer
+        ensures { result ≡ layer_of self }
     {
         match self {
-            Refusal::NoCircuit => 1,
-            Refusal::Unreadable => 1,
-            Refusal::OffCircuit => 1,
-            Refusal::Twice => 1,
-            Refusal::NoRow => 1,
-            Refusal::LaidAlready => 3,
-            Refusal::RaggedChip => 2,
-            Refusal::BadRecord => 2,
-            Refusal::NoDuration => 2,
-            Refusal::Parted => 2,
-            Refusal::BadPlaces => 3,
-            Refusal::BadGate => 3,
-            Refusal::Narrow => 3,
-            Refusal::UnknownKind => 3,
-            Refusal::Unlaid => 3,
-            Refusal::BadStep => 3,
-            Refusal::Uncoupled => 3,
-            Refusal::Busy => 3,
-            Refusal::Late => 3,
-            Refusal::NotNext => 3,
-            Refusal::Full => 3,
-            Refusal::RowsOut => 4,
-            Refusal::Open => 3,
-            Refusal::NoQubit => 3,
+            Refusal::NoCircuit
+            | Refusal::Unreadable
+            | Refusal::OffCircuit
+            | Refusal::Twice
+            | Refusal::NoRow => Layer::Text,
+            Refusal::RaggedChip | Refusal::BadRecord | Refusal::NoDuration | Refusal::Parted =>
+                Layer::Chip,
+            Refusal::RowsOut => Layer::Route,
+            Refusal::LaidAlready
+            | Refusal::BadPlaces
+            | Refusal::BadGate
+            | Refusal::Narrow
+            | Refusal::UnknownKind
+            | Refusal::Unlaid
+            | Refusal::BadStep
+            | Refusal::Uncoupled
+            | Refusal::Busy
+            | Refusal::Late
+            | Refusal::NotNext
+            | Refusal::Full
+            | Refusal::Open
+            | Refusal::NoQubit => Layer::Bench,
         }
     }
-}
 
-impl Refusal {
     /// The place of the refusal in the order of judgement: of all conditions that hold, the lowest rank is answered.
     pub fn rank(self) -> u8
         ensures { result ≡ rank self }
     {
         self.number()
     }
+
+    /// The refusal at a place.
+    pub fn at(self, place: usize) -> Fault
+        ensures { result ≡ record { refusal = self; place = place } }
+    {
+        Fault {
+            refusal: self,
+            place,
+        }
+    }
 }
 
 /// A refusal and its place: a line, a record, a gate, a qubit, a kind or a count, by the refusal.
-#[derive(Clone, Copy, Debug, PartialEq)]
+#[derive(Clone, Copy, Debug, PartialEq, Eq)]
 pub struct Fault {
     pub refusal: Refusal,
     pub place: usize,
@@ -122,9 +124,17 @@ impl Fault {
     }
 
     /// The layer of the refusal.
-    pub fn layer(self) -> u8
-        ensures { result ≡ layer self.refusal }
+    pub fn layer(self) -> Layer
+        ensures { result ≡ layer_of self.refusal }
     {
         self.refusal.layer()
+    }
+}
+
+impl fmt::Display for Fault {
+    ghost output = { λ f. Some (refusal_text f) };
+
+    fn fmt<W: fmt::Write>(&self, f: &mut fmt::Formatter<W>) -> fmt::Result {
+        write!(f, "refused {} {}", self.number(), self.place)
     }
 }

@@ -1,8 +1,6 @@
 -- The lines of steps, and the line of a refusal.
 use Rattle.std.specs.Prelude.{◌≡◌, ℕ, ◌≤◌, Bool, true, false, List, [], ◌++◌, codes, decimal}
 use Rattle.rows.specs.declared.row.Step.{Step as StepRow}
-use Rattle.rows.specs.declared.refusal.Fault.{Fault}
-use Rattle.rows.specs.Numbers.{number}
 use Rattle.step_text.specs.Kinds.{step_name, on_two, has_k}
 
 -- a comma and the number, or nothing
@@ -41,7 +39,3 @@ pub record Plain (r : StepRow) : Type 0 where
 pub record WritesStep (line : List ℕ) (r : StepRow) : Type 0 where
   pub plain : Plain r
   pub is : line ≡ step_line r
-
--- the line of a refusal, with its newline: `refused 2 7`, its number and its place
-abbrev pub refusal_line : Fault → List ℕ
-refusal_line f = codes "refused " ++ (decimal (number f.refusal) ++ (codes " " ++ (decimal f.place ++ codes "\n")))

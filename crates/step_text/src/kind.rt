@@ -19,7 +19,7 @@ impl StepKind {
         if number == 12 {
             return Some(StepKind::Exchange);
         }
-        let kind = Kind::of(number)?;
+        let kind = Kind::try_from(number).ok()?;
         Some(StepKind::Gate(kind))
     }
 

@@ -1,7 +1,8 @@
 // The lines of steps and refusals, added to a text.
 ghost use Rattle.std.specs.Prelude.{◌≡◌, ◌++◌, IfOk, string_bytes, codes, MatchBool, MatchOption, OnOk};
+ghost use Rattle.rows.specs.Printed.{refusal_line};
 ghost use Rattle.step_text.specs.Kinds.{step_code};
-ghost use Rattle.step_text.specs.StepLines.{part, step_line, Plain, refusal_line};
+ghost use Rattle.step_text.specs.StepLines.{part, step_line, Plain};
 
 use crate::kind::StepKind;
 use rows::{Fault, Step};
@@ -64,8 +65,6 @@ pub fn write_step(heap: Global, out: &mut String, step: Step) -> Result<bool, Al
 pub fn write_refusal(heap: Global, out: &mut String, fault: Fault) -> Result<(), AllocError>
     ensures { OnOk result (string_bytes out.new ≡ string_bytes out.old ++ refusal_line fault) }
 {
-    let number = fault.number();
-    let place = fault.place;
-    let line = format!(in heap; "refused {number} {place}\n")?;
+    let line = format!(in heap; "{fault}\n")?;
     out.push_str(line.as_str())
 }

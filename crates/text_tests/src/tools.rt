@@ -43,7 +43,7 @@ pub(crate) fn check_refused(
         Err(fault) => {
             assert_eq!(rt; fault.number(), number);
             assert_eq!(rt; fault.place, place);
-            assert_eq!(rt; fault.layer(), 1);
+            assert_eq!(rt; fault.layer().number(), 1);
             check_marked(rt, &rows, 0)
         }
     }

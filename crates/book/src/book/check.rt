@@ -10,17 +10,14 @@ ghost use Rattle.book.specs.Books.{Holds, Judges, Takes, Brings, BringsNone};
 use crate::book::Book;
 use crate::book::keep::wires_of;
 use crate::verdict::{Turn, Verdict};
-use rows::{Action, Fault, Operation, Refusal, Step};
+use rows::{Action, Fault, Operation, Placed, Refusal, Step};
 
 impl Book {
     /// A refusal at the number of kept steps.
     fn refuse(&self, refusal: Refusal) -> Fault
         ensures { result ≡ record { refusal = refusal; place = self.now.log.kept } }
     {
-        Fault {
-            refusal,
-            place: self.log.kept as usize,
-        }
+        refusal.at(self.log.kept as usize)
     }
 
     /// Whether the step's wires, if they are two, are coupled.
@@ -28,9 +25,10 @@ impl Book {
         ensures { result ≡ joined (plan_in self.now.plan).chart (step_at action) }
     {
         match action {
-            Action::One(_, _, _) => true,
-            Action::Two(_, _, a, b) => self.plan.chip().coupled(a, b),
-            Action::Exchange(a, b) => self.plan.chip().coupled(a, b),
+            Action::Gate(Placed::One(_, _, _)) => true,
+            Action::Gate(Placed::Two(_, _, a, b)) | Action::Exchange(a, b) => {
+                self.plan.chip().coupled(a, b)
+            }
         }
     }
 
@@ -39,8 +37,7 @@ impl Book {
         ensures { result ≡ step_cycles (plan_in self.now.plan).chart (step_at action) }
     {
         match action {
-            Action::One(kind, _, _) => self.plan.chip().duration(kind),
-            Action::Two(kind, _, _, _) => self.plan.chip().duration(kind),
+            Action::Gate(gate) => self.plan.chip().duration(gate.kind()),
             Action::Exchange(_, _) => self.plan.chip().exchange_duration(),
         }
     }
@@ -52,14 +49,14 @@ impl Book {
             (λ g. Brings (places_of self.now.log.places) self.now.log.places.qubits (step_at action) g) }
     {
         match action {
-            Action::One(kind, k, a) => {
+            Action::Gate(Placed::One(kind, k, a)) => {
                 let q = self.log.places.qubit_on(a)?;
-                Some(Operation::One(kind, k, q))
+                Some(Placed::One(kind, k, q))
             }
-            Action::Two(kind, k, a, b) => {
+            Action::Gate(Placed::Two(kind, k, a, b)) => {
                 let q = self.log.places.qubit_on(a)?;
                 let s = self.log.places.qubit_on(b)?;
-                Some(Operation::Two(kind, k, q, s))
+                Some(Placed::Two(kind, k, q, s))
             }
             Action::Exchange(_, _) => None,
         }

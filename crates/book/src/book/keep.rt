@@ -13,15 +13,15 @@ use crate::book::Book;
 use crate::log::Log;
 use crate::verdict::Turn;
 use plan::{Ability, Plan};
-use rows::{Action, Fault, Gate as GateRow, Step, Wire};
+use rows::{Action, Fault, Gate as GateRow, Placed, Step, Wire};
 
 /// The wires of a step; a gate on one wire has it for both.
 pub(crate) fn wires_of(action: Action) -> (Wire, Wire)
     ensures { (result.0.0 ≡ first_wire (step_at action)) × (result.1.0 ≡ second_wire (step_at action)) }
 {
     match action {
-        Action::One(_, _, a) => (a, a),
-        Action::Two(_, _, a, b) => (a, b),
+        Action::Gate(Placed::One(_, _, a)) => (a, a),
+        Action::Gate(Placed::Two(_, _, a, b)) => (a, b),
         Action::Exchange(a, b) => (a, b),
     }
 }

@@ -113,10 +113,7 @@ impl Book {
             (λ f. Turned (ClearFits (plan_in self.now.plan) l) f) }
     {
         if let Some(i) = self.lowest_open() {
-            return Err(Fault {
-                refusal: Refusal::Open,
-                place: i,
-            });
+            return Err(Refusal::Open.at(i));
         }
         Ok(Counts {
             gates: self.plan.circuit().count() as u32,

@@ -6,16 +6,6 @@ ghost use Rattle.plan.specs.Circuits.{gates_in, Reads, Miswritten};
 use crate::circuit::Circuit;
 use rows::{Fault, Gate as GateRow, Kind, Logical, Operation, Refusal};
 
-/// The refusal of a bad gate, at its row.
-fn miswritten(place: usize) -> Fault
-    ensures { result ≡ record { refusal = Refusal.BadGate; place = place } }
-{
-    Fault {
-        refusal: Refusal::BadGate,
-        place,
-    }
-}
-
 impl Circuit {
     /// The circuit that the rows write for so many qubits, or the refusal of a bad gate at the first row that it fits.
     pub fn of(qubits: u8, rows: &[GateRow]) -> Result<Circuit, Fault>
@@ -24,10 +14,10 @@ impl Circuit {
         let mut gates = [Operation::One(Kind::X, 0, Logical(0)); 1024];
         for i in 0..rows.len() {
             if i >= 1024 {
-                return Err(miswritten(1024));
+                return Err(Refusal::BadGate.at(1024));
             }
             let Some(gate) = rows[i].decode(qubits) else {
-                return Err(miswritten(i));
+                return Err(Refusal::BadGate.at(i));
             };
             gates[i] = gate;
         }

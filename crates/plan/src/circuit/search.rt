@@ -6,18 +6,7 @@ ghost use Rattle.plan.specs.Circuits.{gates_in, number, NextOf, FirstSharing, No
 
 use crate::ability::Ability;
 use crate::circuit::Circuit;
-use crate::operation::{are_same, share};
-use rows::{Kind, Operation};
-
-/// The kind of a gate.
-fn kind_of(gate: Operation) -> Kind
-    ensures { result ≡ kind_of (gate_at gate) }
-{
-    match gate {
-        Operation::One(kind, _, _) => kind,
-        Operation::Two(kind, _, _, _) => kind,
-    }
-}
+use rows::Operation;
 
 impl Circuit {
     /// The number of gates.
@@ -49,7 +38,7 @@ impl Circuit {
             × ((j : ℕ) → j < i → known ability.now.kinds (kind_of (number (gates_in self.now) j)) ≡ true)) }
     {
         for i in 0..self.count {
-            if !ability.knows(kind_of(self.gates[i])) {
+            if !ability.knows(self.gates[i].kind()) {
                 return Some(i);
             }
         }
@@ -63,7 +52,7 @@ impl Circuit {
             (λ i. FirstSharing (gates_in self.now) done.now (gate_at gate) i) }
     {
         for i in 0..self.count {
-            if !done[i] && share(self.gates[i], gate) {
+            if !done[i] && self.gates[i].shares(gate) {
                 return Some(i);
             }
         }
@@ -78,7 +67,7 @@ impl Circuit {
             (λ i. NextOf (gates_in self.now) done.now (gate_at gate) i) }
     {
         let i = self.first_sharing(done, gate)?;
-        if are_same(self.gates[i], gate) {
+        if self.gates[i].is(gate) {
             Some(i)
         } else {
             None

@@ -34,16 +34,10 @@ impl Plan {
         let first = Places::lay(&chip, qubits, places)?;
         let circuit = Circuit::of(qubits, gates)?;
         if ability.width() < wires {
-            return Err(Fault {
-                refusal: Refusal::Narrow,
-                place: ability.width() as usize,
-            });
+            return Err(Refusal::Narrow.at(ability.width() as usize));
         }
         if let Some(i) = circuit.unknown(ability) {
-            return Err(Fault {
-                refusal: Refusal::UnknownKind,
-                place: i,
-            });
+            return Err(Refusal::UnknownKind.at(i));
         }
         Ok(Plan {
             chip,

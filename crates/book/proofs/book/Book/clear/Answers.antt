@@ -6,7 +6,7 @@ use Rattle.book.proofs.Shown.{turned_open, clear_counts}
 use Rattle.book.proofs.book.Book.clear.Goals as goal
 
 pub returns-in-Some : goal.returns-in-Some
-returns-in-Some c l h = turned_open (plan_in c.args.self.now.plan) l c.in-Some.i (c.in-Some.ensures l h)
+returns-in-Some c l h = rw c.at.ensures (turned_open (plan_in c.args.self.now.plan) l c.in-Some.i (c.in-Some.ensures l h))
 
 pub returns : goal.returns
 returns c l h =

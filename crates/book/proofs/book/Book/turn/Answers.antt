@@ -9,8 +9,7 @@ use Rattle.book.proofs.book.Book.turn.Goals as goal
 
 -- only an exchange is a swap
 no_swap : (a : Action) → ((x y : Wire) → ¬ (a ≡ Action.Exchange x y)) → (x y : ℕ) → ¬ (step_at a ≡ swap x y)
-no_swap (Action.One κ k a) other x y e = let z : ◌≡◌ {A = ℕ} 0 1 = cc in omega arith
-no_swap (Action.Two κ k a b) other x y e = let z : ◌≡◌ {A = ℕ} 0 1 = cc in omega arith
+no_swap (Action.Gate g) other x y e = let z : ◌≡◌ {A = ℕ} 0 1 = cc in omega arith
 no_swap (Action.Exchange a b) other x y e = other a b (λ i. Action.Exchange a b)
 
 pub returns-in_err-gate : goal.returns-in_err-gate

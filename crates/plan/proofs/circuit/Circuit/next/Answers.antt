@@ -22,16 +22,16 @@ bounds-self-i c =
     let f = c.in_ok-i.ensures in
     omega (arith, f.listed, gates_length s, s.few)
 
-pub returns-then-are_same : goal.returns-then-are_same
-returns-then-are_same c =
+pub returns-then-is : goal.returns-then-is
+returns-then-is c =
     let s = c.args.self.now in
     let f = c.in_ok-i.ensures in
     let h : c.in_ok-i.i < s.count = omega (arith, f.listed, gates_length s) in
-    next_from (gates_in s) c.args.done.now (gate_at c.args.gate) _ f (gates_at s c.in_ok-i.i h ∙ c.are_same.ensures.0 c.if-are_same.true)
+    next_from (gates_in s) c.args.done.now (gate_at c.args.gate) _ f (gates_at s c.in_ok-i.i h ∙ c.is.ensures.0 c.if-is.true)
 
-pub returns-else-are_same : goal.returns-else-are_same
-returns-else-are_same c =
+pub returns-else-is : goal.returns-else-is
+returns-else-is c =
     let s = c.args.self.now in
     let f = c.in_ok-i.ensures in
     let h : c.in_ok-i.i < s.count = omega (arith, f.listed, gates_length s) in
-    other_next (gates_in s) c.args.done.now (gate_at c.args.gate) _ f (λ e. both_ways _ c.if-are_same.false (c.are_same.ensures.1 (sym (gates_at s c.in_ok-i.i h) ∙ e)))
+    other_next (gates_in s) c.args.done.now (gate_at c.args.gate) _ f (λ e. both_ways _ c.if-is.false (c.is.ensures.1 (sym (gates_at s c.in_ok-i.i h) ∙ e)))

@@ -9,12 +9,12 @@ some_not_none g e = let z : ◌≡◌ {A = ℕ} 0 1 = cc in omega arith
 pub returns-then-i-ge1024 : goal.returns-then-i-ge1024
 returns-then-i-ge1024 c =
     let inv = c.loop-i.invariant in
-    miswritten_past c.args.qubits c.args.rows.now (omega (arith, c.loop-i-test.true)) (λ j h. inv.3 j (omega arith)) _ c.miswritten.ensures
+    miswritten_past c.args.qubits c.args.rows.now (omega (arith, c.loop-i-test.true)) (λ j h. inv.3 j (omega arith)) _ c.at.ensures
 
 pub returns-in_default : goal.returns-in_default
 returns-in_default c =
     let inv = c.loop-i.invariant in
-    miswritten_at c.args.qubits c.args.rows.now c.loop-i.i c.loop-i-test.true inv.1 inv.3 (sym c.in_default.ensures) _ c.miswritten-in_default.ensures
+    miswritten_at c.args.qubits c.args.rows.now c.loop-i.i c.loop-i-test.true inv.1 inv.3 (sym c.in_default.ensures) _ c.at-in_default.ensures
 
 pub loop-i-preserved : goal.loop-i-preserved
 loop-i-preserved c =

@@ -9,7 +9,7 @@ returns-then-not-knows c =
     let s = c.args.self.now in
     let ks = c.args.ability.now.kinds in (
       omega (arith, gates_length s),
-      ap (λ g. known ks (kind_of g)) (gates_at s c.loop-i.i c.loop-i-test.true) ∙ ap (known ks) (sym c.kind_of.ensures) ∙ sym c.if-not-knows.ensures,
+      ap (λ g. known ks (kind_of g)) (gates_at s c.loop-i.i c.loop-i-test.true) ∙ ap (known ks) (sym c.kind.ensures) ∙ sym c.if-not-knows.ensures,
       c.loop-i.invariant,
     )
 
@@ -18,7 +18,7 @@ loop-i-preserved c =
     let s = c.args.self.now in
     let ks = c.args.ability.now.kinds in
     below_more _ _ c.loop-i.invariant
-    (ap (λ g. known ks (kind_of g)) (gates_at s c.loop-i.i c.loop-i-test.true) ∙ ap (known ks) (sym c.kind_of.ensures) ∙ sym c.if-not-knows.ensures)
+    (ap (λ g. known ks (kind_of g)) (gates_at s c.loop-i.i c.loop-i-test.true) ∙ ap (known ks) (sym c.kind.ensures) ∙ sym c.if-not-knows.ensures)
 
 pub returns : goal.returns
 returns c i h = c.loop-i.invariant i (omega (arith, gates_length c.args.self.now, c.loop-i-test.false))

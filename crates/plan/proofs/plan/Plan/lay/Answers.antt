@@ -30,19 +30,19 @@ returns-in_err-circuit c =
 pub returns-then-width-wires : goal.returns-then-width-wires
 returns-then-width-wires c =
     let chip = c.in_ok-chip.ensures.answer in
-    width_turned c.args.ability.now c.args.wires c.args.records.now c.args.qubits c.args.places.now c.args.gates.now
+    rw c.at.ensures (width_turned c.args.ability.now c.args.wires c.args.records.now c.args.qubits c.args.places.now c.args.gates.now
     c.in_ok-chip.chip chip.0 chip.1 c.in_ok-first.first c.in_ok-first.ensures
     c.in_ok-circuit.circuit c.in_ok-circuit.ensures c.width-then-width-wires.result c.width-then-width-wires.ensures
-    (omega (arith, c.width.ensures, c.width-then-width-wires.ensures, c.if-width-wires.true))
+    (omega (arith, c.width.ensures, c.width-then-width-wires.ensures, c.if-width-wires.true)))
 
 pub returns-in-Some : goal.returns-in-Some
 returns-in-Some c =
     let chip = c.in_ok-chip.ensures.answer in
     let u = c.in-Some.ensures in
-    kind_turned c.args.ability.now c.args.wires c.args.records.now c.args.qubits c.args.places.now c.args.gates.now
+    rw c.at-in-Some.ensures (kind_turned c.args.ability.now c.args.wires c.args.records.now c.args.qubits c.args.places.now c.args.gates.now
     c.in_ok-chip.chip chip.0 chip.1 c.in_ok-first.first c.in_ok-first.ensures
     c.in_ok-circuit.circuit c.in_ok-circuit.ensures (omega (arith, c.width.ensures, c.if-width-wires.false))
-    c.in-Some.i u.0 u.1 u.2
+    c.in-Some.i u.0 u.1 u.2)
 
 pub invariant_of-result : goal.invariant_of-result
 invariant_of-result c =
