@@ -5,28 +5,18 @@ ghost use Rattle.step_text.specs.StepLines.{named};
 
 use crate::kind::StepKind;
 use lines::{Token, front};
-use rows::Kind;
 
 // The kind with this name.
 fn kind_named(word: &[u8]) -> Option<StepKind>
     ensures { MatchOption result ((κ : StepKind) → ¬ (word.now ≡ step_name (step_code κ))) (λ κ. word.now ≡ step_name (step_code κ)) }
 {
-    let kind = match word {
-        [b'x'] => Kind::X,
-        [b'y'] => Kind::Y,
-        [b'z'] => Kind::Z,
-        [b'h'] => Kind::H,
-        [b's'] => Kind::S,
-        [b's', b'd', b'a', b'g'] => Kind::Sdag,
-        [b't'] => Kind::T,
-        [b't', b'd', b'a', b'g'] => Kind::Tdag,
-        [b'c', b'n', b'o', b't'] => Kind::Cnot,
-        [b'c', b'z'] => Kind::Cz,
-        [b'c', b'r', b'k'] => Kind::Crk,
-        [b's', b'w', b'a', b'p'] => return Some(StepKind::Exchange),
-        _ => return None,
-    };
-    Some(StepKind::Gate(kind))
+    for code in 1..13 {
+        let kind = StepKind::try_from(code).ok()?;
+        if kind.name().as_bytes() == word {
+            return Some(kind);
+        }
+    }
+    None
 }
 
 // The kind whose name stands between two spaces at the front of `s`, and what comes after them.

@@ -4,13 +4,9 @@ use Rattle.std.proofs.lemmas.Bool.{cases_lt}
 use Rattle.std.specs.Result.{OkIff, result_ok}
 use Rattle.std.proofs.lemmas.Str.{IsUtf8-from_ascii}
 use Rattle.std.proofs.lemmas.Str.Parse.{parse_digits}
+use Rattle.lines.proofs.Results.{no_value}
 use Rattle.lines.proofs.Decimal.{AllDigits, own, by_index, digits_ascii}
 use Rattle.lines.proofs.number.value_of.Goals as goal
-
--- what a Result without a value says
-refused : {T E : Type 0} (r : Result T E) (P : T → Type 0) (Q : E → Type 0) (R : Type 0) → result_ok r ≡ None → MatchResult r P Q → ((e : E) → Q e → R) → R
-refused (Ok x) P Q R e h k = cc
-refused (Err x) P Q R e h k = k x h
 
 unread : {T E : Type 0} (r : Result T E) (P : Type 0) (x : T) → result_ok r ≡ None → OkIff r P x → ¬ P
 unread (Ok y) P x e h = cc
@@ -22,7 +18,7 @@ same_text (Err x) t bs U Q e h = cc
 
 pub returns-in_err-text : goal.returns-in_err-text
 returns-in_err-text c =
-    refused c.from_utf8.result _ _ _ (sym c.ok.ensures.value ∙ c.in_err-text.was) c.from_utf8.ensures.cases
+    no_value c.from_utf8.result _ _ _ (sym c.ok.ensures.value ∙ c.in_err-text.was) c.from_utf8.ensures.cases
     (λ e no. absurd (no.0 (IsUtf8-from_ascii c.args.digits.now (digits_ascii c.args.digits.now c.requires.1))))
 
 pub returns-in_err-v : goal.returns-in_err-v
