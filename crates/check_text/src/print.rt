@@ -10,21 +10,21 @@ use std::alloc::{AllocError, Global};
 use step_text::write_refusal;
 
 // Adds the line of one answer.
-fn add_answer(heap: Global, out: &mut String, answer: Option<Fault>) -> Result<(), AllocError>
+fn add_answer(out: &mut String, answer: Option<Fault>) -> Result<(), AllocError>
     ensures { OnOk result (string_bytes out.new ≡ string_bytes out.old ++ answer_line answer) }
 {
     match answer {
-        Some(fault) => write_refusal(heap, out, fault),
+        Some(fault) => write_refusal(out, fault),
         None => out.push_str("kept\n"),
     }
 }
 
 // Adds the line of each answer.
-fn add_answers(heap: Global, out: &mut String, trials: &[Trial]) -> Result<(), AllocError>
+fn add_answers(out: &mut String, trials: &[Trial]) -> Result<(), AllocError>
     ensures { OnOk result (string_bytes out.new ≡ string_bytes out.old ++ flat_map trial_line trials.now) }
 {
     for trial in trials {
-        add_answer(heap, out, trial.answer)?;
+        add_answer(out, trial.answer)?;
     }
     Ok(())
 }
@@ -52,7 +52,7 @@ pub fn show_answers(
     ensures { IfOk result (λ s. string_bytes s ≡ answers_text trials.now cleared) }
 {
     let mut out = String::new(heap);
-    add_answers(heap, &mut out, trials)?;
+    add_answers(&mut out, trials)?;
     add_last(&mut out, cleared)?;
     Ok(out)
 }

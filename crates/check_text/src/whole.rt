@@ -16,16 +16,13 @@ use book::Book;
 use plan::Ability;
 use rows::{Fault, Gate as GateRow, Logical, Wire};
 use std::alloc::{AllocError, Global};
-use step_text::write_refusal;
 use text::{Circuit, read};
 
 // The line of a refusal alone.
 fn refused(heap: Global, fault: Fault) -> Result<String, AllocError>
     ensures { IfOk result (λ s. string_bytes s ≡ refusal_line fault) }
 {
-    let mut out = String::new(heap);
-    write_refusal(heap, &mut out, fault)?;
-    Ok(out)
+    format!(in heap; "{fault}\n")
 }
 
 // The first places: each qubit on the wire of its number.

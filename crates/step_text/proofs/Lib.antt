@@ -2,4 +2,3 @@ pub mod Codes
 pub mod Words
 pub mod Lists
 pub mod OneRow
-pub mod Printed

@@ -1,5 +1,5 @@
 -- The parts of a step's line, as they are read from its front.
-use Rattle.std.specs.Prelude.{◌≡◌, ℕ, ◌≤◌, Bool, true, false, List, ◌++◌, decimal}
+use Rattle.std.specs.Prelude.{◌≡◌, ℕ, ◌≤◌, Bool, true, false, List, ◌++◌}
 use Rattle.lines.specs.Number.{Digit, Unlike}
 use Rattle.step_text.specs.Kinds.{on_two, has_k}
 use Rattle.step_text.specs.StepLines.{part, operands}

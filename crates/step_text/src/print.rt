@@ -27,11 +27,7 @@ fn plain_kind(step: Step) -> Option<StepKind>
 fn add_part(out: &mut String, written: bool, n: u8) -> Result<(), AllocError>
     ensures { OnOk result (string_bytes out.new ≡ string_bytes out.old ++ part written n) }
 {
-    if written {
-        write!(out, ",{n}")
-    } else {
-        Ok(())
-    }
+    if written { write!(out, ",{n}") } else { Ok(()) }
 }
 
 // Adds the line of a row, whose kind is given.
