@@ -21,12 +21,4 @@ five_parts o o1 o2 o3 o4 o5 a b c d e p1 p2 p3 p4 p5 =
     let q4 : o4 ≡ (((o ++ a) ++ b) ++ c) ++ d = p4 ∙ ap (λ l. l ++ d) q3 in
     p5 ∙ ap (λ l. l ++ e) q4 ∙ simp append_assoc
 
--- the line of one qubit more
-pub qubits_more : (n : ℕ) (gs : List Gate) (q m : ℕ) (start before after line : List ℕ) → Counts (Source n gs q) n m → line ≡ qubit_line gs q m →
-    (lines : List ℕ) × QubitLines n gs q lines × (before ≡ start ++ lines) → after ≡ before ++ line →
-    (lines : List ℕ) × QubitLines n gs (q + 1) lines × (after ≡ start ++ lines)
-qubits_more n gs q m start before after line counts is h e = (
-  h.0 ++ qubit_line gs q m,
-  subst (λ k. QubitLines n gs k (h.0 ++ qubit_line gs q m)) (sym (add-one q)) (h.0, m, h.1, counts, refl),
-  e ∙ (λ i. h.2 i ++ is i) ∙ append_assoc start h.0 (qubit_line gs q m),
 )
