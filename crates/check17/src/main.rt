@@ -1,5 +1,7 @@
 //! Reads a circuit's text, a line `steps` and steps, one a line, on standard input. Keeps the book of the circuit on a chip,
 //! and prints the answer to each step, and what is counted. The first argument names the chip; without one it is the square.
+//! The same lines as in `check_square`: the gate runs a program on one input, and no clause can say what is read or printed,
+//! so a function that the programs shared would promise nothing.
 
 #![tactic(auto)]
 
