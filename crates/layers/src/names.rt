@@ -4,8 +4,7 @@ ghost use Rattle.std.specs.List.{range_with_len};
 ghost use Rattle.layers.specs.Renaming.{Inside, Once, named, patched};
 
 use cells::Width;
-use rows::{Wire, trade};
-use std::array;
+use rows::{Wire, counted, trade};
 
 // An array of 64 and a width, not a Vec: no call of a layer may allocate.
 /// A name for each wire, one to one.
@@ -15,18 +14,6 @@ pub struct Names {
     width: Width,
     ghost inside: { Inside (take width.n table) },
     ghost once: { Once (take width.n table) },
-}
-
-/// The numbers from 0 to 63.
-fn counted() -> [u8; 64]
-    ensures { result ≡ range_with_len 0 64 }
-{
-    array::from_fn(
-        |i| -> u8
-            requires { i < 64 }
-            ensures { result ≡ i }
-        { i as u8 },
-    )
 }
 
 impl Names {

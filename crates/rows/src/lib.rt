@@ -14,4 +14,4 @@ pub use place::{Logical, Place, Wire};
 pub use placed::Placed;
 pub use refusal::{Fault, Layer, Refusal};
 pub use row::{Action, Gate, Operation, Step};
-pub use table::trade;
+pub use table::{counted, trade};

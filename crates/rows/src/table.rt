@@ -1,6 +1,20 @@
-// Trading two entries of a table.
+// Tables: the numbers in order, and trading two entries.
 ghost use Rattle.std.specs.Prelude.{◌≡◌, ◌<◌, ◌≤◌, ◌⊎◌, length};
-ghost use Rattle.std.specs.List.{swap};
+ghost use Rattle.std.specs.List.{range_with_len, swap};
+
+use std::array;
+
+/// The numbers from 0 to 63, each at its own index.
+pub fn counted() -> [u8; 64]
+    ensures { result ≡ range_with_len 0 64 }
+{
+    array::from_fn(
+        |entry| -> u8
+            requires { entry < 64 }
+            ensures { result ≡ entry }
+        { entry as u8 },
+    )
+}
 
 /// Trades the entries `i` and `j` of a lent table; where one is past the end, nothing changes.
 pub fn trade<T>(table: &mut [T], i: usize, j: usize)

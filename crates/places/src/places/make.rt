@@ -1,19 +1,11 @@
 // First places, from a list of wires.
 ghost use Rattle.std.specs.Prelude.{◌≡◌, ℕ, ◌+◌, ◌<◌, ◌≤◌, [], ◌∷◌, ◌++◌, length, MatchOption, MatchResult};
-ghost use Rattle.std.specs.List.{range_with_len};
 ghost use Rattle.chip.specs.Chips.{chart_of};
 ghost use Rattle.places.specs.Placing.{places_of, numbers, Lays, Misplaced, Taken};
 
 use crate::places::Places;
 use chip::Chip;
-use rows::{Fault, Refusal, Wire};
-
-/// The numbers from 0 to 63.
-fn counted() -> [u8; 64]
-    ensures { result ≡ range_with_len 0 64 }
-{
-    std::array::from_fn(|entry| entry as u8)
-}
+use rows::{Fault, Refusal, Wire, counted};
 
 impl Places {
     /// No qubit is placed yet.

@@ -2,7 +2,7 @@ use Rattle.std.proofs.Common.{◌∙◌, rules}
 use Rattle.std.specs.List.{range_with_len}
 use Rattle.std.proofs.lemmas.List.FromFn.{fill_by_all}
 use Rattle.std.proofs.lemmas.List.{map-id}
-use Rattle.layers.proofs.names.counted.Goals as goal
+use Rattle.rows.proofs.table.counted.Goals as goal
 
 pub returns : goal.returns
 returns c =
