@@ -19,18 +19,18 @@ pub struct Names {
 impl Names {
     /// Each wire under its own name.
     pub fn straight(width: Width) -> Names
-        ensures { take result.width.n result.table ≡ range_with_len 0 width.n }
+        ensures width { result.width.n ≡ width.n }
+        ensures names { take result.width.n result.table ≡ range_with_len 0 width.n }
     {
         let table = counted();
         Names { table, width }
     }
 
-    /// The name of a wire on a machine of so many wires, or 64, which is no machine's wire, where it has none.
-    /// Names that are not as many as the wires count for nothing.
-    pub fn name(&self, wires: u8, a: Wire) -> Wire
-        ensures { result.0 ≡ named wires (take self.now.width.n self.now.table) a.0 }
+    /// The name of a wire, or 64, which is no machine's wire, where it has none.
+    pub fn name(&self, a: Wire) -> Wire
+        ensures { result.0 ≡ named self.now.width.n (take self.now.width.n self.now.table) a.0 }
     {
-        if self.width.get() == wires && a.0 < wires {
+        if self.width.has(a) {
             Wire(self.table[usize::from(a.0)])
         } else {
             Wire(64)
@@ -39,7 +39,8 @@ impl Names {
 
     /// Two wires trade names; where one has no name, nothing changes.
     pub fn patch(&mut self, a: Wire, b: Wire)
-        ensures { take self.new.width.n self.new.table ≡ patched (take self.old.width.n self.old.table) a.0 b.0 }
+        ensures width { self.new.width ≡ self.old.width }
+        ensures names { take self.new.width.n self.new.table ≡ patched (take self.old.width.n self.old.table) a.0 b.0 }
     {
         let wires = self.width.get();
         if a.0 < wires && b.0 < wires {

@@ -10,11 +10,12 @@ use cells::Width;
 use machine::Machine;
 use rows::{Kind, Wire};
 
-/// A machine whose wires go by other names, one to one.
+/// A machine whose wires go by other names, one to one and as many as the wires.
 #[derive(Drop)]
-pub struct Panel<M> {
+pub struct Panel<M: Machine> {
     names: Names,
     below: M,
+    ghost as_many: { names.width.n ≡ M.Machine.acts.wide (M.Machine.means below) },
 }
 
 impl<M: Machine> Panel<M> {
@@ -42,7 +43,7 @@ impl<M: Machine> Panel<M> {
     fn name(&self, a: Wire) -> Wire
         ensures { result.0 ≡ wire_name M.Machine.acts (record { names = renaming self.now.names; below = M.Machine.means self.now.below }) a.0 }
     {
-        self.names.name(self.below.width(), a)
+        self.names.name(a)
     }
 }
 

@@ -14,8 +14,8 @@ invariant_of-self c =
     let t = patched n xs c.trade.new.table c.args.a.0 c.args.b.0 le f g e c.args.self.now.inside c.args.self.now.once in
     record { inside = t.0; once = t.1 }
 
-pub returns-then-b-wires : goal.returns-then-b-wires
-returns-then-b-wires c =
+pub returns-then-b-wires-clause-names : goal.returns-then-b-wires-clause-names
+returns-then-b-wires-clause-names c =
     let n = c.args.self.now.width.n in
     let xs = c.args.self.now.table in
     let le : n ≤ length xs = search rules in

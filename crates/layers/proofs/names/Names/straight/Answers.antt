@@ -6,5 +6,5 @@ invariant_of-result c =
     let t = straight c.args.width.n c.counted-table.result c.args.width.ok c.counted-table.ensures in
     record { inside = t.0; once = t.1 }
 
-pub returns : goal.returns
-returns c = (straight c.args.width.n c.counted-table.result c.args.width.ok c.counted-table.ensures).2
+pub returns-clause-names : goal.returns-clause-names
+returns-clause-names c = (straight c.args.width.n c.counted-table.result c.args.width.ok c.counted-table.ensures).2
