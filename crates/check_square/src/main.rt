@@ -4,7 +4,7 @@
 #![tactic(auto)]
 
 use anyhow::anyhow;
-use check_text::{Reply, reply};
+use check_text::reply;
 use chip::ChipRecords;
 use shipped::chip_named;
 use std::env;
@@ -27,15 +27,9 @@ fn run(rt: &HostRuntime) -> anyhow::Result<()> {
     let chip = chosen(rt)?;
     let mut input = Vec::new(rt.alloc());
     rt.stdin().read_to_end(&mut input)?;
-    match reply(rt.alloc(), chip, &input)? {
-        Reply::Lines(lines) => {
-            print!(rt; "{lines}")?;
-            Ok(())
-        }
-        Reply::Unreadable(line) => Err(anyhow!(format!(in rt.alloc();
-            "line {line} is not a step"
-        )?)),
-    }
+    let lines = reply(rt.alloc(), chip, &input)?;
+    print!(rt; "{lines}")?;
+    Ok(())
 }
 
 fn main(rt: HostRuntime) -> anyhow::Result<()> {

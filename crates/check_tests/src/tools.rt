@@ -1,15 +1,19 @@
 // What the tests share.
-use check_text::{Reply, reply};
+use check_text::{CheckError, reply};
 use shipped::chip_named;
 use std::process::Abort;
 use std::test::Fail;
 
 // The reply to an input on the chip of this name.
-fn reply_on(rt: &impl AllocGlobal, chip: &str, input: &[u8]) -> Result<Reply, Fail> {
+fn reply_on(
+    rt: &impl AllocGlobal,
+    chip: &str,
+    input: &[u8],
+) -> Result<Result<String, CheckError>, Fail> {
     let Some(chip) = chip_named(chip) else {
         return Err(Fail::new("no such chip"));
     };
-    Ok(reply(rt.alloc(), chip, input)?)
+    Ok(reply(rt.alloc(), chip, input))
 }
 
 // The reply on the chip of this name is these lines.
@@ -19,13 +23,9 @@ pub(crate) fn check_lines(
     input: &[u8],
     expected: &str,
 ) -> Result<(), Fail> {
-    match reply_on(rt, chip, input)? {
-        Reply::Lines(lines) => {
-            assert!(rt; lines.as_str() == expected);
-            Ok(())
-        },
-        Reply::Unreadable(_) => Err(Fail::new("a line is unreadable")),
-    }
+    let lines = reply_on(rt, chip, input)??;
+    assert!(rt; lines.as_str() == expected);
+    Ok(())
 }
 
 // The first unreadable line of an input, on the square chip, is this one.
@@ -35,10 +35,11 @@ pub(crate) fn check_stops(
     expected: usize,
 ) -> Result<(), Fail> {
     match reply_on(rt, "square", input)? {
-        Reply::Lines(_) => Err(Fail::new("no line is unreadable")),
-        Reply::Unreadable(line) => {
+        Err(CheckError::Unreadable(line)) => {
             assert_eq!(rt; line, expected);
             Ok(())
         },
+        Err(CheckError::OutOfMemory) => Err(Fail::new("memory ran out")),
+        Ok(_) => Err(Fail::new("no line is unreadable")),
     }
 }

@@ -1,6 +1,5 @@
 -- From the parts of a reply to the whole.
-use Rattle.std.proofs.Common.{◌≡◌, ℕ, ◌≤◌, Bool, true, List, map, length, take, drop, IfOk, Ok, Err, string_bytes, Result, sym, ap, ◌∙◌, subst, arith}
-use Rattle.std.proofs.lemmas.List.{length-map, take_at}
+use Rattle.std.proofs.Common.{◌≡◌, ℕ, Bool, true, List, map, length, Ok, Err, string_bytes, Result, sym, ap, ◌∙◌, subst, arith}
 use Rattle.rows.specs.declared.kind.Kind.{Kind}
 use Rattle.rows.specs.declared.place.Wire.{Wire}
 use Rattle.rows.specs.declared.refusal.Fault.{Fault}
@@ -8,9 +7,7 @@ use Rattle.rows.specs.declared.refusal.Refusal.{Refusal}
 use Rattle.rows.specs.declared.row.Gate.{Gate as GateRow}
 use Rattle.rows.specs.Refusals.{Accepted, Turned}
 use Rattle.rows.specs.Steps.{Gate, row_of_gate}
-use Rattle.text.specs.declared.circuit.Circuit.{Circuit}
-use Rattle.text.specs.Reading.{Statement, statements_of, IsCircuit, IsRefused, room, Reading}
-use Rattle.text.proofs.Decoding.{circuit_fits}
+use Rattle.text.specs.Reading.{Statement, statements_of, IsRefused, room, Reading}
 use Rattle.sheet.specs.Sheets.{Log, unlaid, plan_of, fresh}
 use Rattle.sheet.specs.Refusals.{LayFits}
 use Rattle.plan.specs.declared.ability.Ability.{Ability}
@@ -22,11 +19,13 @@ use Rattle.book.specs.Books.{Holds}
 use Rattle.rows.specs.Printed.{refusal_line}
 use Rattle.audit.specs.declared.trial.Trial.{Trial}
 use Rattle.audit.specs.Audits.{Plays, Clears}
-use Rattle.check_text.specs.declared.answer.Reply.{Reply}
+use Rattle.std.specs.Prelude.{String}
+use Rattle.std.specs.Global.{Global}
+use Rattle.check_text.specs.declared.error.CheckError.{CheckError}
 use Rattle.check_text.specs.Cutting.{Cut}
 use Rattle.check_text.specs.Stepping.{AfterSteps, ReadAs}
 use Rattle.check_text.specs.Answers.{answers_text}
-use Rattle.check_text.specs.Replies.{in_order, laid_out, LayoutFits, CircuitOf, Laid, AllJudged, Prints, Says, Judged, Replies, text_refused, layout_refused, judged}
+use Rattle.check_text.specs.Replies.{in_order, laid_out, LayoutFits, CircuitOf, Laid, AllJudged, Prints, Judged, Replies, text_refused, layout_refused, judged}
 
 -- all steps are offered to a book, which then answers what is counted
 pub all_offered : (b b' : Book) (input out : List ℕ) (ss : List Statement) (xs ys zs : List Trial) (r : Result Counts Fault) →
@@ -59,9 +58,8 @@ module _ (a : Ability) (wires : ℕ) (records : List ℕ) (n : ℕ) (places : Li
       (subst (λ (rs : List GateRow). P (LayFits a.width (known a.kinds) unlaid (layout wires records n places rs))) written h)))
 
   module _ (input : List ℕ) (circuit : CircuitOf input n gs) where
-    pub refused_so : (f : Fault) → Turned (Fits a (layout wires records n places rows)) f → (x : Reply) → Says x (refusal_line f) → Replies wires records input x
-    refused_so f t (Reply.Lines s) says = subst (Prints wires records input) (sym says) (layout_refused n gs circuit f (same_fits (λ F. Turned F f) t))
-    refused_so f t (Reply.Unreadable line) says = absurd says
+    pub refused_so : (f : Fault) → Turned (Fits a (layout wires records n places rows)) f → (s : String Global) → string_bytes s ≡ refusal_line f → Replies wires records input (Ok s)
+    refused_so f t s says = subst (Prints wires records input) (sym says) (layout_refused n gs circuit f (same_fits (λ F. Turned F f) t))
 
     laid : (b : Book) → LaysPlan a (layout wires records n places rows) b.plan → Laid wires records input (plan_in b.plan)
     laid b h = record {
@@ -72,37 +70,16 @@ module _ (a : Ability) (wires : ℕ) (records : List ℕ) (n : ℕ) (places : Li
       given = h.given ∙ (λ i. plan_of (layout wires records n (ordered i) (written i)));
     }
 
-    pub judged_so : (b : Book) → LaysPlan a (layout wires records n places rows) b.plan → Holds b (fresh (plan_in b.plan)) → (x : Reply) →
+    pub judged_so : (b : Book) → LaysPlan a (layout wires records n places rows) b.plan → Holds b (fresh (plan_in b.plan)) → (x : Result (String Global) CheckError) →
         ((l : Log) → Holds b l → Judged (plan_in b.plan) l input x) → Replies wires records input x
-    judged_so b h holds (Reply.Lines s) j = judged (plan_in b.plan) (laid b h) (string_bytes s) (j (fresh (plan_in b.plan)) holds)
-    judged_so b h holds (Reply.Unreadable line) j = ((plan_in b.plan, laid b h), j (fresh (plan_in b.plan)) holds)
+    judged_so b h holds (Ok s) j = judged (plan_in b.plan) (laid b h) (string_bytes s) (j (fresh (plan_in b.plan)) holds)
+    judged_so b h holds (Err (CheckError.Unreadable line)) j = ((plan_in b.plan, laid b h), j (fresh (plan_in b.plan)) holds)
+    judged_so b h holds (Err CheckError.OutOfMemory) j = tt
 
 room_is : (old : List GateRow) → length old ≡ 1024 → room old ≡ 1024
 room_is old h = omega (arith, h)
 
-module _ (input part : List ℕ) (cut : Cut input part) (old new : List GateRow) (long : length old ≡ 1024) where
-  module _ (c : Circuit) (h : Reading part old new (Ok c)) where
-    -- there is a row for each gate
-    pub rows_fit : c.gates ≤ 1024
-    rows_fit = omega (arith, h.2, circuit_fits (room old) (statements_of part) c.qubits h.0 h.1, room_is old long)
-
-    -- and it is the row of that gate
-    pub rows_are : take c.gates new ≡ map row_of_gate h.0
-    rows_are =
-        let count : c.gates ≡ length (map row_of_gate h.0) = omega (arith, h.2, length-map h.0 row_of_gate) in
-        ap (take c.gates) h.3 ∙ take_at (map row_of_gate h.0) (drop (length (map row_of_gate h.0)) old) c.gates (sym count)
-
-    pub circuit_of : CircuitOf input c.qubits h.0
-    circuit_of = record { part = part; cut = cut; circuit = subst (λ k. IsCircuit k (statements_of part) c.qubits h.0) (room_is old long) h.1 }
-
-  pub text_so : (wires : ℕ) (records : List ℕ) (f : Fault) → Reading part old new (Err f) → (x : Reply) → Says x (refusal_line f) → Replies wires records input x
-  text_so wires records f h (Reply.Lines s) says =
-      subst (Prints wires records input) (sym says) (text_refused f (record { part = part; cut = cut; refused = subst (λ k. IsRefused k (statements_of part) f) (room_is old long) h.0 }))
-  text_so wires records f h (Reply.Unreadable line) says = absurd says
-
--- a reply for whichever gates the rows write is one for these
-pub handed : {E : Type 0} (r : Result Reply E) (wires : ℕ) (records input : List ℕ) (n : ℕ) (rows : List GateRow) (gs : List Gate) →
-    IfOk r (λ x. (hs : List Gate) → rows ≡ map row_of_gate hs → CircuitOf input n hs → Replies wires records input x) → rows ≡ map row_of_gate gs → CircuitOf input n gs →
-    IfOk r (λ x. Replies wires records input x)
-handed (Ok x) wires records input n rows gs h written circuit = h gs written circuit
-handed (Err e) wires records input n rows gs h written circuit = tt
+pub text_so : (input part : List ℕ) → Cut input part → (old new : List GateRow) → length old ≡ 1024 → (wires : ℕ) (records : List ℕ) (f : Fault) → Reading part old new (Err f) →
+    (s : String Global) → string_bytes s ≡ refusal_line f → Replies wires records input (Ok s)
+text_so input part cut old new long wires records f h s says =
+    subst (Prints wires records input) (sym says) (text_refused f (record { part = part; cut = cut; refused = subst (λ k. IsRefused k (statements_of part) f) (room_is old long) h.0 }))

@@ -2,12 +2,6 @@
 use Rattle.std.specs.Prelude.{◌≡◌, ℕ, ◌⊎◌, List, [], ◌∷◌, ◌++◌, codes}
 use Rattle.std.specs.List.{AllByRecursion}
 use Rattle.text.specs.Reading.{lines}
-use Rattle.text.specs.Writing.{Unbroken}
-
--- line is the first line of the text, without its byte 10, which it may lack if nothing comes after it
-pub record FirstLine (text line after : List ℕ) : Type 0 where
-  pub unbroken : Unbroken line
-  pub is : (text ≡ line ++ (10 ∷ after)) ⊎ ((text ≡ line) × (after ≡ []))
 
 -- none of the lines is `steps`
 abbrev pub NoneSteps : List (List ℕ) → Type 0

@@ -1,3 +1,4 @@
+pub mod Errors
 pub mod Cutting
 pub mod Stepping
 pub mod Answers

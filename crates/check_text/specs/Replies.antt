@@ -1,5 +1,7 @@
 -- Which reply is given for which input.
-use Rattle.std.specs.Prelude.{◌≡◌, ℕ, zero, suc, true, List, [], ◌∷◌, ◌++◌, map, string_bytes, Result}
+use Rattle.std.specs.Prelude.{◌≡◌, ℕ, zero, suc, true, List, [], ◌∷◌, ◌++◌, map, Ok, Err, string_bytes, Result}
+use Rattle.std.specs.Prelude.{String}
+use Rattle.std.specs.Global.{Global}
 use Rattle.rows.specs.declared.place.Wire.{Wire}
 use Rattle.rows.specs.declared.refusal.Fault.{Fault}
 use Rattle.rows.specs.declared.refusal.Refusal.{Refusal}
@@ -13,7 +15,7 @@ use Rattle.book.specs.declared.verdict.Counts.{Counts}
 use Rattle.rows.specs.Printed.{refusal_line}
 use Rattle.audit.specs.declared.trial.Trial.{Trial}
 use Rattle.audit.specs.Audits.{Answered, Clears}
-use Rattle.check_text.specs.declared.answer.Reply.{Reply}
+use Rattle.check_text.specs.declared.error.CheckError.{CheckError}
 use Rattle.check_text.specs.Cutting.{Cut}
 use Rattle.check_text.specs.Stepping.{AfterSteps, ReadAs, UnreadableAt}
 use Rattle.check_text.specs.Answers.{answers_text}
@@ -76,17 +78,14 @@ pub data Prints (wires : ℕ) (records input : List ℕ) : List ℕ → Type 0 w
   layout_refused : (n : ℕ) (gs : List Gate) → CircuitOf input n gs → (f : Fault) → Turned (LayoutFits wires records n gs) f → Prints wires records input (refusal_line f)
   judged : (p : Plan) → Laid wires records input p → (out : List ℕ) → AllJudged p (fresh p) input out → Prints wires records input out
 
--- the reply to the input: what is printed, or the line that ends the program where the circuit is laid
-abbrev pub Replies : ℕ → List ℕ → List ℕ → Reply → Type 0
-Replies wires records input (Reply.Lines s) = Prints wires records input (string_bytes s)
-Replies wires records input (Reply.Unreadable line) = ((p : Plan) × Laid wires records input p) × Stopped input line
-
--- the reply is these lines
-abbrev pub Says : Reply → List ℕ → Type 0
-Says (Reply.Lines s) out = string_bytes s ≡ out
-Says (Reply.Unreadable line) out = ⊥
+-- the reply to the input: what is printed, or the line that ends the program where the circuit is laid; nothing is said where memory runs out
+abbrev pub Replies : ℕ → List ℕ → List ℕ → Result (String Global) CheckError → Type 0
+Replies wires records input (Ok s) = Prints wires records input (string_bytes s)
+Replies wires records input (Err (CheckError.Unreadable line)) = ((p : Plan) × Laid wires records input p) × Stopped input line
+Replies wires records input (Err CheckError.OutOfMemory) = Unit {0}
 
 -- the reply to the steps of the input, from the sheet of p and l on
-abbrev pub Judged : Plan → Log → List ℕ → Reply → Type 0
-Judged p l input (Reply.Lines s) = AllJudged p l input (string_bytes s)
-Judged p l input (Reply.Unreadable line) = Stopped input line
+abbrev pub Judged : Plan → Log → List ℕ → Result (String Global) CheckError → Type 0
+Judged p l input (Ok s) = AllJudged p l input (string_bytes s)
+Judged p l input (Err (CheckError.Unreadable line)) = Stopped input line
+Judged p l input (Err CheckError.OutOfMemory) = Unit {0}

@@ -1,10 +1,11 @@
 -- The steps of the lines after the line `steps`.
-use Rattle.std.specs.Prelude.{◌≡◌, ℕ, ◌⊎◌, List, [], ◌∷◌, None, vec_items, codes}
+use Rattle.std.specs.Prelude.{◌≡◌, ℕ, ◌⊎◌, List, [], ◌∷◌, None, Ok, Err, vec_items, codes, Result}
+use Rattle.std.specs.Global.{Vec}
 use Rattle.rows.specs.declared.row.Step.{Step as StepRow}
 use Rattle.text.specs.Reading.{Statement, statements_of}
 use Rattle.step_text.specs.StepLines.{WritesStep}
 use Rattle.audit.specs.declared.trial.Trial.{Trial}
-use Rattle.check_text.specs.declared.steps.Steps.{Steps}
+use Rattle.check_text.specs.declared.error.CheckError.{CheckError}
 
 -- rest comes after the first statement that is `steps`; nothing does where none is
 abbrev pub AfterSteps : List Statement → List Statement → Type 0
@@ -24,11 +25,12 @@ UnreadableAt (s ∷ ss) n =
     (((row : StepRow) → ¬ WritesStep s.bytes row) × (n ≡ s.number))
     ⊎ (((row : StepRow) × WritesStep s.bytes row) × UnreadableAt ss n)
 
--- what is read of the statements
-abbrev pub ReadsAll : List Statement → Steps → Type 0
-ReadsAll ss (Steps.Read v) = ReadAs ss (vec_items v)
-ReadsAll ss (Steps.Unreadable n) = UnreadableAt ss n
+-- what is read of the statements; nothing is said where memory runs out
+abbrev pub ReadsAll : List Statement → Result (Vec Trial) CheckError → Type 0
+ReadsAll ss (Ok v) = ReadAs ss (vec_items v)
+ReadsAll ss (Err (CheckError.Unreadable n)) = UnreadableAt ss n
+ReadsAll ss (Err CheckError.OutOfMemory) = Unit {0}
 
 -- what is read of the lines after the line `steps`
-abbrev pub ReadsSteps : List ℕ → Steps → Type 0
-ReadsSteps input s = (ss : List Statement) × AfterSteps (statements_of input) ss × ReadsAll ss s
+abbrev pub ReadsSteps : List ℕ → Result (Vec Trial) CheckError → Type 0
+ReadsSteps input r = (ss : List Statement) × AfterSteps (statements_of input) ss × ReadsAll ss r

@@ -2,14 +2,14 @@
 
 #![tactic(auto)]
 
-mod answer;
 mod cut;
+mod error;
 mod print;
 mod steps;
 mod whole;
 
-pub use answer::Reply;
 pub use cut::circuit_part;
+pub use error::CheckError;
 pub use print::show_answers;
-pub use steps::{Steps, read_steps};
+pub use steps::read_steps;
 pub use whole::reply;

@@ -1,50 +1,37 @@
 // The steps of the lines after the line `steps`.
-ghost use Rattle.std.specs.Prelude.{◌+◌, IfOk};
-ghost use Rattle.text.specs.Reading.{lines, statements};
+ghost use Rattle.text.specs.Lexing.{left};
 ghost use Rattle.check_text.specs.Stepping.{AfterSteps, ReadsAll, ReadsSteps};
 
 use crate::cut::is_steps;
+use crate::error::CheckError;
 use audit::Trial;
-use std::alloc::{AllocError, Global};
+use std::alloc::Global;
 use step_text::step_of;
 use text::Lexer;
 
-/// The steps that lines write, each not offered yet; or the number of the first line that writes none.
-#[derive(Drop)]
-pub enum Steps {
-    Read(Vec<Trial>),
-    Unreadable(usize),
-}
-
 // Passes all statements up to the first that is `steps`.
 fn find_steps(lexer: &mut Lexer)
-    ensures { AfterSteps (statements (lexer.old.passed + 1) (lines lexer.old.rest.now)) (statements (lexer.new.passed + 1) (lines lexer.new.rest.now)) }
+    ensures { AfterSteps (left lexer.old) (left lexer.new) }
 {
-    while let Some(word) = lexer.next() {
-        if is_steps(word.bytes) {
-            return;
-        }
-    }
+    lexer.find(|word| is_steps(word.bytes));
 }
 
 // The steps of the statements that are left.
-fn read_all(heap: Global, mut lexer: Lexer) -> Result<Steps, AllocError>
-    ensures { IfOk result (λ s. ReadsAll (statements (lexer.entry.passed + 1) (lines lexer.entry.rest.now)) s) }
+fn read_all(heap: Global, lexer: Lexer) -> Result<Vec<Trial>, CheckError>
+    ensures { ReadsAll (left lexer.entry) result }
 {
     let mut trials = Vec::new(heap);
-    while let Some(word) = lexer.next() {
-        let Some(step) = step_of(word.bytes) else {
-            return Ok(Steps::Unreadable(word.line));
-        };
+    for word in lexer {
+        let step = step_of(word.bytes).ok_or(CheckError::Unreadable(word.line))?;
         trials.push(Trial { step, answer: None })?;
     }
-    Ok(Steps::Read(trials))
+    Ok(trials)
 }
 
-/// The steps of the lines after the first line that is `steps`; none where no line is. Empty lines and comments are passed
-/// over, and lines count from 1 in the whole input.
-pub fn read_steps(heap: Global, input: &[u8]) -> Result<Steps, AllocError>
-    ensures { IfOk result (λ s. ReadsSteps input.now s) }
+/// The steps that the lines after the first line that is `steps` write, each not offered yet, none where no line is; or the number of
+/// the first of these lines that writes none. Empty lines and comments are passed over, and lines count from 1 in the whole input.
+pub fn read_steps(heap: Global, input: &[u8]) -> Result<Vec<Trial>, CheckError>
+    ensures { ReadsSteps input.now result }
 {
     let mut lexer = Lexer::new(input);
     find_steps(&mut lexer);

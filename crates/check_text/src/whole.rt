@@ -1,57 +1,46 @@
 // The reply to a whole input.
-ghost use Rattle.std.specs.Prelude.{◌≡◌, List, map, length, IfOk};
+ghost use Rattle.std.specs.Prelude.{◌≡◌, List, map, length, IfOk, string_bytes};
 ghost use Rattle.rows.specs.Steps.{Gate, row_of_gate};
 ghost use Rattle.sheet.specs.Sheets.{Log as SheetLog};
 ghost use Rattle.plan.specs.Laying.{plan_in};
 ghost use Rattle.book.specs.Books.{Holds};
 ghost use Rattle.rows.specs.Printed.{refusal_line};
-ghost use Rattle.check_text.specs.Replies.{in_order, Says, Judged, CircuitOf, Replies};
+ghost use Rattle.check_text.specs.Replies.{in_order, Judged, CircuitOf, Replies};
 
-use crate::answer::Reply;
 use crate::cut::circuit_part;
+use crate::error::CheckError;
 use crate::print::show_answers;
-use crate::steps::{Steps, read_steps};
+use crate::steps::read_steps;
 use audit::audit;
 use book::Book;
 use chip::ChipRecords;
 use plan::{Ability, Layout};
 use rows::{Fault, Gate as GateRow, Logical, Wire};
 use std::alloc::{AllocError, Global};
-use step_text::write_refusal;
 use text::{Circuit, read};
 
 // The line of a refusal alone.
-fn refused(heap: Global, fault: Fault) -> Result<Reply, AllocError>
-    ensures { IfOk result (λ x. Says x (refusal_line fault)) }
+fn refused(heap: Global, fault: Fault) -> Result<String, AllocError>
+    ensures { IfOk result (λ s. string_bytes s ≡ refusal_line fault) }
 {
-    let mut out = String::new(heap);
-    write_refusal(heap, &mut out, fault)?;
-    Ok(Reply::Lines(out))
+    format!(in heap; "{fault}\n")
 }
 
 // The first places: each qubit on the wire of its number.
 fn first_places(heap: Global, qubits: u8) -> Result<Vec<Wire>, AllocError>
     ensures { IfOk result (λ v. v.items ≡ in_order qubits) }
 {
-    let mut places = Vec::new(heap);
-    for q in 0..qubits {
-        places.push(Wire(q))?;
-    }
-    Ok(places)
+    (0..qubits).map(Wire).collect(heap)
 }
 
 // Offers the steps of the input to a book.
-fn judge(heap: Global, mut book: Book, input: &[u8]) -> Result<Reply, AllocError>
-    ensures { IfOk result (λ x. (l : SheetLog) → Holds book l → Judged (plan_in book.plan) l input.now x) }
+fn judge(heap: Global, mut book: Book, input: &[u8]) -> Result<String, CheckError>
+    ensures { (l : SheetLog) → Holds book l → Judged (plan_in book.plan) l input.now result }
 {
-    match read_steps(heap, input)? {
-        Steps::Read(mut trials) => {
-            let cleared = audit(&mut book, &mut trials);
-            let out = show_answers(heap, &trials, cleared)?;
-            Ok(Reply::Lines(out))
-        }
-        Steps::Unreadable(line) => Ok(Reply::Unreadable(line)),
-    }
+    let mut trials = read_steps(heap, input)?;
+    let cleared = audit(&mut book, &mut trials);
+    let out = show_answers(heap, &trials, cleared)?;
+    Ok(out)
 }
 
 // Lays the input's circuit, of so many qubits and with these gates, and offers it the steps.
@@ -61,8 +50,8 @@ fn lay_and_judge(
     input: &[u8],
     qubits: u8,
     gates: &[GateRow],
-) -> Result<Reply, AllocError>
-    ensures { IfOk result (λ x. (gs : List Gate) → gates.now ≡ map row_of_gate gs → CircuitOf input.now qubits gs → Replies chip.entry.wires chip.entry.bytes.now input.now x) }
+) -> Result<String, CheckError>
+    ensures { (gs : List Gate) → gates.now ≡ map row_of_gate gs → CircuitOf input.now qubits gs → Replies chip.entry.wires chip.entry.bytes.now input.now result }
 {
     let places = first_places(heap, qubits)?;
     let ability = Ability::all(64);
@@ -74,7 +63,7 @@ fn lay_and_judge(
     };
     match Book::lay(&ability, layout) {
         Ok(book) => judge(heap, book, input),
-        Err(fault) => refused(heap, fault),
+        Err(fault) => Ok(refused(heap, fault)?),
     }
 }
 
@@ -84,22 +73,22 @@ fn reply_with(
     chip: ChipRecords,
     input: &[u8],
     rows: &mut [GateRow],
-) -> Result<Reply, AllocError>
+) -> Result<String, CheckError>
     requires { length rows.old ≡ 1024 }
-    ensures { IfOk result (λ x. Replies chip.entry.wires chip.entry.bytes.now input.now x) }
+    ensures { Replies chip.entry.wires chip.entry.bytes.now input.now result }
 {
     match read(circuit_part(input), rows) {
         Ok(Circuit { qubits, gates }) => {
             lay_and_judge(heap, chip, input, qubits, &rows[..gates])
         }
-        Err(fault) => refused(heap, fault),
+        Err(fault) => Ok(refused(heap, fault)?),
     }
 }
 
 /// The reply to an input, on a chip as it is written: the line of the refusal of its circuit's text
-/// or of the layout; the number of the first unreadable step line; or the answers to the steps, and what is counted.
-pub fn reply(heap: Global, chip: ChipRecords, input: &[u8]) -> Result<Reply, AllocError>
-    ensures { IfOk result (λ x. Replies chip.entry.wires chip.entry.bytes.now input.now x) }
+/// or of the layout; the number of the first unreadable step line, as an error; or the answers to the steps, and what is counted.
+pub fn reply(heap: Global, chip: ChipRecords, input: &[u8]) -> Result<String, CheckError>
+    ensures { Replies chip.entry.wires chip.entry.bytes.now input.now result }
 {
     let mut rows = [GateRow {
         kind: 0,

@@ -1,3 +1,4 @@
+pub mod Results
 pub mod Runs
 pub mod Decimal
 pub mod Suits

@@ -7,7 +7,7 @@ use Rattle.rows.specs.Steps.{Gate, one, two, kind_of, first_of}
 use Rattle.lines.specs.Number.{Digit, Unlike, Begins}
 use Rattle.lines.specs.Grammar.{ending, tail, Writable, Writes}
 use Rattle.lines.proofs.Decimal.{begins_same, same_number}
-use Rattle.lines.proofs.Suits.{crk_bounds, crk_ending, none_suits, none_zero, none_ending, single_not}
+use Rattle.lines.proofs.Suits.{crk_bounds, crk_ending, none_zero, none_ending, single_not}
 
 -- a number that tells the names apart, from the bytes before the first space
 abbrev key : ℕ → List ℕ → ℕ
@@ -53,30 +53,24 @@ tail_ends (one κ k a) = tt
 tail_ends (two κ k a b) = λ d. omega (arith, d.0)
 
 -- the number of the second qubit, after the comma and q
-pub second_begins : (κ : Kind) (b k : ℕ) → b < 10000 → Begins (decimal b ++ ending κ k) b (ending κ k)
-second_begins κ b k small = record { small = small; ended = ending_ends κ k; split = refl }
+pub second_begins : (κ : Kind) (b k : ℕ) → b < 10000 → Begins 9999 (decimal b ++ ending κ k) b (ending κ k)
+second_begins κ b k small = record { small = omega arith; ended = ending_ends κ k; split = refl }
 
-pub after_begins : (s after : List ℕ) (κ : Kind) (b k : ℕ) → b < 10000 → s ≡ codes ",q" ++ after → s ≡ codes ",q" ++ (decimal b ++ ending κ k) → Begins after b (ending κ k)
+pub after_begins : (s after : List ℕ) (κ : Kind) (b k : ℕ) → b < 10000 → s ≡ codes ",q" ++ after → s ≡ codes ",q" ++ (decimal b ++ ending κ k) → Begins 9999 after b (ending κ k)
 after_begins s after κ b k small cut is =
-    subst (λ t. Begins t b (ending κ k)) (sym (append_cancel_left (codes ",q") after _ (sym cut ∙ is))) (second_begins κ b k small)
+    subst (λ t. Begins 9999 t b (ending κ k)) (sym (append_cancel_left (codes ",q") after _ (sym cut ∙ is))) (second_begins κ b k small)
 
 -- the number of the first qubit
-first_begins : (g : Gate) → Writable g → Begins (decimal (first_of g) ++ tail g) (first_of g) (tail g)
-first_begins g w = record { small = w.first; ended = tail_ends g; split = refl }
+first_begins : (g : Gate) → Writable g → Begins 9999 (decimal (first_of g) ++ tail g) (first_of g) (tail g)
+first_begins g w = record { small = omega (arith, w.first); ended = tail_ends g; split = refl }
 
 -- a line that writes g, cut after its name and after its first number
-pub parts : (line rest after : List ℕ) (κ : Kind) (v : ℕ) (g : Gate) → line ≡ name κ ++ (codes " q" ++ rest) → Begins rest v after → Writes line g →
+pub parts : (line rest after : List ℕ) (κ : Kind) (v : ℕ) (g : Gate) → line ≡ name κ ++ (codes " q" ++ rest) → Begins 9999 rest v after → Writes line g →
     (κ ≡ kind_of g) × (v ≡ first_of g) × (after ≡ tail g)
 parts line rest after κ v g cut b w =
     let same = opens_same κ (kind_of g) rest (decimal (first_of g) ++ tail g) (sym cut ∙ w.is) in
-    let nums = begins_same rest v (first_of g) after (tail g) b (subst (λ s. Begins s (first_of g) (tail g)) (sym same.1) (first_begins g w.writable)) in
+    let nums = begins_same 9999 rest v (first_of g) after (tail g) (omega arith) b (subst (λ s. Begins 9999 s (first_of g) (tail g)) (sym same.1) (first_begins g w.writable)) in
     (same.0, nums.0, nums.1)
-
--- the same line cut after its name alone
-pub first_part : (line rest : List ℕ) (κ : Kind) (g : Gate) → line ≡ name κ ++ (codes " q" ++ rest) → Writes line g → Begins rest (first_of g) (tail g)
-first_part line rest κ g cut w =
-    let same = opens_same κ (kind_of g) rest (decimal (first_of g) ++ tail g) (sym cut ∙ w.is) in
-    subst (λ s. Begins s (first_of g) (tail g)) (sym same.1) (first_begins g w.writable)
 
 -- of a kind on one qubit, nothing comes after the first number
 pub single_tail : (κ : Kind) (g : Gate) → double κ ≡ false → κ ≡ kind_of g → Writable g → tail g ≡ []
@@ -111,7 +105,7 @@ tail_same : (κ : Kind) (k b m d : ℕ) → k_suits κ k ≡ true → k_suits κ
     codes ",q" ++ (decimal b ++ ending κ k) ≡ codes ",q" ++ (decimal d ++ ending κ m) → (b ≡ d) × (k ≡ m)
 tail_same κ k b m d g h sb sd e =
     let cut = append_cancel_left (codes ",q") (decimal b ++ ending κ k) (decimal d ++ ending κ m) e in
-    let both = begins_same _ b d (ending κ k) (ending κ m) (second_begins κ b k sb) (subst (λ s. Begins s d (ending κ m)) (sym cut) (second_begins κ d m sd)) in
+    let both = begins_same 9999 _ b d (ending κ k) (ending κ m) (omega arith) (second_begins κ b k sb) (subst (λ s. Begins 9999 s d (ending κ m)) (sym cut) (second_begins κ d m sd)) in
     (both.0, ending_same κ k m g h both.1)
 
 -- a line writes at most one gate
@@ -131,17 +125,3 @@ writes_same line g h p q =
     from (two κ k a b) (two j m c d) w v e f t =
         let same = tail_same κ k b m d w.k (ap (λ i. k_suits i m) e ∙ v.k) w.second v.second (t ∙ ap (λ i. codes ",q" ++ (decimal d ++ ending i m)) (sym e)) in
         λ i. two (e i) (same.1 i) (f i) (same.0 i)
-
--- a line that was cut into its parts writes the gate of the parts
-pub one_written : (line rest after : List ℕ) (κ : Kind) (a : ℕ) → line ≡ name κ ++ (codes " q" ++ rest) → Begins rest a after → double κ ≡ false → after ≡ [] → Writes line (one κ 0 a)
-one_written line rest after κ a cut b single none = record {
-  writable = record { places = sym single; k = none_suits κ (single_not κ single); first = b.small; second = b.small };
-  is = cut ∙ ap (λ s. name κ ++ (codes " q" ++ s)) (b.split ∙ ap (λ s. decimal a ++ s) none);
-}
-
-pub two_written : (line rest after : List ℕ) (κ : Kind) (k a b : ℕ) → line ≡ name κ ++ (codes " q" ++ rest) → Begins rest a after → double κ ≡ true →
-    b < 10000 → k_suits κ k ≡ true → after ≡ codes ",q" ++ (decimal b ++ ending κ k) → Writes line (two κ k a b)
-two_written line rest after κ k a b cut h pair small suits is = record {
-  writable = record { places = sym pair; k = suits; first = h.small; second = small };
-  is = cut ∙ ap (λ s. name κ ++ (codes " q" ++ s)) (h.split ∙ ap (λ s. decimal a ++ s) is);
-}

@@ -39,7 +39,3 @@ module _ (C : ℕ → Type 0) where
 
   pub longest_some : (s w rest : List ℕ) → Longest C s w rest → 0 < length s
   longest_some s w rest l = omega (arith, l.some, ap length l.split, length-append w rest)
-
-  -- a run of no bytes: the first byte is not of the class
-  pub none_first : (s : List ℕ) (n : ℕ) → n ≤ 0 → (n < length s → ¬ C (get_or s n 0)) → 0 < length s → ¬ C (get_or s 0 0)
-  none_first s n none stops some h = let zero_is : n ≡ 0 = omega arith in stops (omega arith) (subst (λ i. C (get_or s i 0)) (sym zero_is) h)

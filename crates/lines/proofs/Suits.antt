@@ -5,21 +5,9 @@ use Rattle.rows.specs.declared.kind.Kind.{Kind}
 use Rattle.rows.specs.Kinds.{code, double, turns, k_suits}
 use Rattle.lines.specs.Grammar.{ending}
 
-pub crk_turns : (κ : Kind) → code κ ≡ 11 → turns κ ≡ true
-crk_turns κ e = grind (arith, nat_tests)
-
-pub others_not : (κ : Kind) → ¬ (code κ ≡ 11) → turns κ ≡ false
-others_not κ e = grind (arith, nat_tests)
-
 -- crk: k is 1 to 31, after a comma
 abbrev in_range : ℕ → Bool
 in_range k = ltb 0 k && ltb k 32
-
-inside : (k : ℕ) → 1 ≤ k → k ≤ 31 → in_range k ≡ true
-inside k some few = grind (arith, nat_tests)
-
-pub crk_suits : (κ : Kind) (k : ℕ) → turns κ ≡ true → 1 ≤ k → k ≤ 31 → k_suits κ k ≡ true
-crk_suits κ k e some few = ap (λ b. cond b (in_range k) (eqb k 0)) e ∙ inside k some few
 
 low : (k : ℕ) → in_range k ≡ true → 1 ≤ k
 low k w = grind (arith, nat_tests)
@@ -32,10 +20,6 @@ crk_bounds κ k e h = let w : in_range k ≡ true = ap (λ b. cond b (in_range k
 
 pub crk_ending : (κ : Kind) (k : ℕ) → turns κ ≡ true → ending κ k ≡ codes "," ++ decimal k
 crk_ending κ k e = ap (λ b. cond b (codes "," ++ decimal k) []) e
-
--- another kind: k is 0, and nothing is written
-pub none_suits : (κ : Kind) → turns κ ≡ false → k_suits κ 0 ≡ true
-none_suits κ e = ap (λ b. cond b (in_range 0) (eqb 0 0)) e
 
 pub none_ending : (κ : Kind) (k : ℕ) → turns κ ≡ false → ending κ k ≡ []
 none_ending κ k e = ap (λ b. cond b (codes "," ++ decimal k) []) e

@@ -13,8 +13,8 @@ fn is_within(gate: Written, n: u8) -> bool
     ensures { MatchBool result (Within n (gate_in gate)) (¬ Within n (gate_in gate)) }
 {
     match gate {
-        Written::One(_, _, a) => a < n as u16,
-        Written::Two(_, _, a, b) => a < n as u16 && b < n as u16,
+        Written::One(_, _, a) => a < n as u32,
+        Written::Two(_, _, a, b) => a < n as u32 && b < n as u32,
     }
 }
 
@@ -41,49 +41,55 @@ fn on_qubits(gate: Written, n: u8) -> Operation
     }
 }
 
-// Refuses a gate whose qubits are not all qubits of the circuit.
-fn within(line: &[u8], at: usize, qubits: u8, left: usize, gate: Written) -> Result<(), Fault>
-    requires { Writes line.now (gate_in gate) }
-    ensures { MatchResult result (λ _. Within qubits (gate_in gate)) (λ f. Turned (LineFits qubits left line.now at) f) }
-{
-    if is_within(gate, qubits) {
-        return Ok(());
-    }
-    Err(Refusal::OffCircuit.at(at))
+// The gate that a line writes, in a circuit of so many qubits where rows are left for so many more gates.
+#[derive(Drop)]
+struct GateLine<'a> {
+    line: &'a [u8],
+    at: usize,
+    qubits: u8,
+    left: usize,
+    gate: Written,
+    ghost writes: { Writes line.now (gate_in gate) },
 }
 
-// Refuses a gate that names one qubit twice.
-fn apart(line: &[u8], at: usize, qubits: u8, left: usize, gate: Written) -> Result<(), Fault>
-    requires writes { Writes line.now (gate_in gate) }
-    requires within { Within qubits (gate_in gate) }
-    ensures { MatchResult result (λ _. ¬ Doubled (gate_in gate)) (λ f. Turned (LineFits qubits left line.now at) f) }
-{
-    if is_doubled(gate) {
-        return Err(Refusal::Twice.at(at));
+impl GateLine<'_> {
+    // Refuses a gate whose qubits are not all qubits of the circuit.
+    fn within(&self) -> Result<(), Fault>
+        ensures { MatchResult result
+            (λ _. Within self.now.qubits (gate_in self.now.gate))
+            (λ f. Turned (LineFits self.now.qubits self.now.left self.now.line.now self.now.at) f) }
+    {
+        if is_within(self.gate, self.qubits) {
+            return Ok(());
+        }
+        Err(Refusal::OffCircuit.at(self.at))
     }
-    Ok(())
-}
 
-// Refuses a gate for which no row is left.
-fn row_left(line: &[u8], at: usize, qubits: u8, left: usize, gate: Written) -> Result<(), Fault>
-    requires writes { Writes line.now (gate_in gate) }
-    requires within { Within qubits (gate_in gate) }
-    requires apart { ¬ Doubled (gate_in gate) }
-    ensures { MatchResult result (λ _. Accepted (LineFits qubits left line.now at)) (λ f. Turned (LineFits qubits left line.now at) f) }
-{
-    if left == 0 {
-        return Err(Refusal::NoRow.at(at));
+    // Refuses a gate that names one qubit twice.
+    fn apart(&self) -> Result<(), Fault>
+        requires { Within self.now.qubits (gate_in self.now.gate) }
+        ensures { MatchResult result
+            (λ _. ¬ Doubled (gate_in self.now.gate))
+            (λ f. Turned (LineFits self.now.qubits self.now.left self.now.line.now self.now.at) f) }
+    {
+        if is_doubled(self.gate) {
+            return Err(Refusal::Twice.at(self.at));
+        }
+        Ok(())
     }
-    Ok(())
-}
 
-// The gate that a line writes, or that it is unreadable.
-fn readable(line: &[u8], at: usize, qubits: u8, left: usize) -> Result<Written, Fault>
-    ensures { MatchResult result (λ w. Writes line.now (gate_in w)) (λ f. Turned (LineFits qubits left line.now at) f) }
-{
-    match parse_gate(line) {
-        Some(gate) => Ok(gate),
-        None => Err(Refusal::Unreadable.at(at)),
+    // Refuses a gate for which no row is left.
+    fn row_left(&self) -> Result<(), Fault>
+        requires within { Within self.now.qubits (gate_in self.now.gate) }
+        requires apart { ¬ Doubled (gate_in self.now.gate) }
+        ensures { MatchResult result
+            (λ _. Accepted (LineFits self.now.qubits self.now.left self.now.line.now self.now.at))
+            (λ f. Turned (LineFits self.now.qubits self.now.left self.now.line.now self.now.at) f) }
+    {
+        if self.left == 0 {
+            return Err(Refusal::NoRow.at(self.at));
+        }
+        Ok(())
     }
 }
 
@@ -94,9 +100,18 @@ pub fn gate_of(line: &[u8], at: usize, qubits: u8, left: usize) -> Result<GateRo
         (λ row. Accepted (LineFits qubits left line.now at) × ((g : Gate) × Writes line.now g × (row ≡ row_of_gate g)))
         (λ f. Turned (LineFits qubits left line.now at) f) }
 {
-    let gate = readable(line, at, qubits, left)?;
-    within(line, at, qubits, left, gate)?;
-    apart(line, at, qubits, left, gate)?;
-    row_left(line, at, qubits, left, gate)?;
+    let Some(gate) = parse_gate(line) else {
+        return Err(Refusal::Unreadable.at(at));
+    };
+    let read = GateLine {
+        line,
+        at,
+        qubits,
+        left,
+        gate,
+    };
+    read.within()?;
+    read.apart()?;
+    read.row_left()?;
     Ok(on_qubits(gate, qubits).row())
 }

@@ -8,6 +8,7 @@ use crate::number::last_number;
 fn after_qubits(line: &[u8]) -> Option<&[u8]>
     ensures { MatchOption result ((rest : List ℕ) → ¬ (line.now ≡ codes "qubits " ++ rest)) (λ rest. line.now ≡ codes "qubits " ++ rest.now) }
 {
+    // A slice pattern, not strip_prefix: the fixed bytes of a circuit's line are matched by slice patterns, a rule of this project.
     match line {
         [b'q', b'u', b'b', b'i', b't', b's', b' ', rest @ ..] => Some(rest),
         _ => None,

@@ -12,4 +12,5 @@ mod written;
 
 pub use gate::gate_of;
 pub use heading::qubits_of;
+pub use number::number_up_to;
 pub use token::{Token, front};

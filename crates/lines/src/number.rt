@@ -1,21 +1,23 @@
-// Numbers in a circuit's text: one to four digits, with no leading zero.
+// Numbers at the front of a text: decimal, with no leading zero, up to a limit.
 ghost use Rattle.std.specs.Prelude.{◌≡◌, ℕ, ◌<◌, ◌≤◌, List, length, decimal, MatchBool, MatchOption, slice_index};
 ghost use Rattle.std.specs.List.{AllByRecursion};
 ghost use Rattle.std.specs.Str.Parse.{digits_value};
 ghost use Rattle.lines.specs.Number.{Digit, Begins};
 
 use crate::token::{Token, front};
+use std::str::from_utf8;
 
-// The number that one to four digits write.
-fn digits_value(digits: &[u8]) -> u16
-    requires { (length digits.now ≤ 4) × (AllByRecursion Digit digits.now) }
-    ensures { result ≡ digits_value 10 digits.now }
+// The largest number in a circuit's text: four digits.
+pub(crate) const LARGEST: u32 = 9999;
+
+// The number that the digits write, if it is at most `limit`.
+fn value_of(digits: &[u8], limit: u32) -> Option<u32>
+    requires { (0 < length digits.now) × AllByRecursion Digit digits.now }
+    ensures { MatchOption result (limit < digits_value 10 digits.now) (λ v. (v ≤ limit) × (v ≡ digits_value 10 digits.now)) }
 {
-    let mut v: u16 = 0;
-    for b in digits {
-        v = v * 10 + (*b - b'0') as u16;
-    }
-    v
+    let text = from_utf8(digits).ok()?;
+    let v = text.parse::<u32>().ok()?;
+    if v <= limit { Some(v) } else { None }
 }
 
 // Whether there are two digits or more, and the first is 0.
@@ -28,27 +30,25 @@ fn has_leading_zero(digits: &[u8]) -> bool
     }
 }
 
-// The number at the front of `s`, and what comes after it.
-pub(crate) fn number(s: &[u8]) -> Option<(u16, &[u8])>
-    ensures { MatchOption result ((v : ℕ) (rest : List ℕ) → ¬ Begins s.now v rest) (λ x. Begins s.now x.0 x.1.now) }
+/// The number at the front of `s`, if it is at most `limit`, and what comes after it.
+pub fn number_up_to(s: &[u8], limit: u32) -> Option<(u32, &[u8])>
+    ensures { MatchOption result ((v : ℕ) (rest : List ℕ) → ¬ Begins limit s.now v rest) (λ x. Begins limit s.now x.0 x.1.now) }
 {
     let (token, rest) = front(s)?;
     let Token::Number(digits) = token else {
         return None;
     };
-    if digits.len() > 4 {
-        return None;
-    }
     if has_leading_zero(digits) {
         return None;
     }
-    Some((digits_value(digits), rest))
+    let v = value_of(digits, limit)?;
+    Some((v, rest))
 }
 
-// The number that is the whole of `s`.
-pub(crate) fn last_number(s: &[u8]) -> Option<u16>
+// The number of a circuit's text that is the whole of `s`.
+pub(crate) fn last_number(s: &[u8]) -> Option<u32>
     ensures { MatchOption result ((v : ℕ) → v < 10000 → ¬ (s.now ≡ decimal v)) (λ v. (v < 10000) × (s.now ≡ decimal v)) }
 {
-    let (v, rest) = number(s)?;
+    let (v, rest) = number_up_to(s, LARGEST)?;
     if rest.is_empty() { Some(v) } else { None }
 }

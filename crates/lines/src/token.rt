@@ -18,11 +18,9 @@ fn run(s: &[u8], low: u8, high: u8) -> usize
     ensures all { (i : ℕ) → i < result → IsInRange low high (slice_index s.now i) }
     ensures stops { result < length s.now → ¬ IsInRange low high (slice_index s.now result) }
 {
-    let mut n = 0;
-    while n < s.len() && low <= s[n] && s[n] <= high {
-        n += 1;
-    }
-    n
+    s.iter()
+        .position(|b| *b < low || *b > high)
+        .unwrap_or(s.len())
 }
 
 // The longest front of bytes from `low` to `high`, and what comes after it, if the first byte is one of them.

@@ -2,4 +2,4 @@
 use rows::Placed;
 
 /// A gate as its line writes it, at numbers that may be past the circuit's qubits.
-pub(crate) type Written = Placed<u16>;
+pub(crate) type Written = Placed<u32>;

@@ -37,6 +37,3 @@ reads_from (b ∷ p) (a ∷ s) len h = (h.0, reads_from p s (omega arith) (shift
 -- a line that is not empty is its first byte and what a match binds after it
 pub first_and_rest : (s : List ℕ) → 0 < length s → s ≡ get_or s 0 0 ∷ take (length s - 1) (drop 1 s)
 first_and_rest s some = drop_more s 0 0 some ∙ ap (λ l. get_or s 0 0 ∷ l) (sym (take_rest s 1))
-
-pub first_and_rest_of : (s : List ℕ) (b : ℕ) → 0 < length s → get_or s 0 0 ≡ b → s ≡ b ∷ take (length s - 1) (drop 1 s)
-first_and_rest_of s b some e = first_and_rest s some ∙ ap (λ a. a ∷ take (length s - 1) (drop 1 s)) e

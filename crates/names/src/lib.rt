@@ -12,6 +12,7 @@ use rows::Kind;
 pub fn opening(line: &[u8]) -> Option<(Kind, &[u8])>
     ensures { MatchOption result ((κ : Kind) (rest : List ℕ) → ¬ (line.now ≡ name κ ++ (codes " q" ++ rest))) (λ x. line.now ≡ name x.0 ++ (codes " q" ++ x.1.now)) }
 {
+    // Slice patterns, and so the names once more: the fixed bytes of a circuit's line are matched by them, a rule of this project.
     match line {
         [b'x', b' ', b'q', rest @ ..] => Some((Kind::X, rest)),
         [b'y', b' ', b'q', rest @ ..] => Some((Kind::Y, rest)),

@@ -26,10 +26,6 @@ headed_size room [] n gs h = absurd h
 headed_size room (s ∷ ss) n gs h = (h.0.some, h.0.few)
 
 module _ (text : List ℕ) (old new : List GateRow) (long : length old ≡ 1024) (c : Circuit) (h : Reading text old new (Ok c)) where
-  -- there is a row for each gate
-  pub rows_fit : c.gates ≤ 1024
-  rows_fit = omega (arith, h.2, circuit_fits (room old) (statements_of text) c.qubits h.0 h.1, room_is old long)
-
   -- the rows read decode to the gates
   pub rows_decode : Decodes c.qubits (take (c.gates - 0) new) h.0
   rows_decode =

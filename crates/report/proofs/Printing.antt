@@ -1,10 +1,7 @@
 -- Lines put one after the other.
-use Rattle.std.proofs.Common.{◌≡◌, ℕ, ◌+◌, ◌<◌, List, ◌++◌, length, get_or, take, sym, refl, ap, ◌∙◌, subst, add-one}
+use Rattle.std.proofs.Common.{◌≡◌, ℕ, ◌+◌, ◌<◌, List, ◌++◌, length, get_or, take, sym, ap, ◌∙◌}
 use Rattle.std.specs.List.{flat_map}
 use Rattle.std.proofs.lemmas.List.{append_assoc, take_more, flat_map_more}
-use Rattle.rows.specs.Steps.{Gate}
-use Rattle.chains.specs.Chained.{Source, Counts}
-use Rattle.report.specs.Report.{qubit_line, QubitLines}
 
 -- one line more
 pub line_more : {X : Type 0} (f : X → List ℕ) (xs : List X) (i : ℕ) (d : X) (start before after : List ℕ) → i < length xs →
@@ -20,13 +17,3 @@ five_parts o o1 o2 o3 o4 o5 a b c d e p1 p2 p3 p4 p5 =
     let q3 : o3 ≡ ((o ++ a) ++ b) ++ c = p3 ∙ ap (λ l. l ++ c) q2 in
     let q4 : o4 ≡ (((o ++ a) ++ b) ++ c) ++ d = p4 ∙ ap (λ l. l ++ d) q3 in
     p5 ∙ ap (λ l. l ++ e) q4 ∙ simp append_assoc
-
--- the line of one qubit more
-pub qubits_more : (n : ℕ) (gs : List Gate) (q m : ℕ) (start before after line : List ℕ) → Counts (Source n gs q) n m → line ≡ qubit_line gs q m →
-    (lines : List ℕ) × QubitLines n gs q lines × (before ≡ start ++ lines) → after ≡ before ++ line →
-    (lines : List ℕ) × QubitLines n gs (q + 1) lines × (after ≡ start ++ lines)
-qubits_more n gs q m start before after line counts is h e = (
-  h.0 ++ qubit_line gs q m,
-  subst (λ k. QubitLines n gs k (h.0 ++ qubit_line gs q m)) (sym (add-one q)) (h.0, m, h.1, counts, refl),
-  e ∙ (λ i. h.2 i ++ is i) ∙ append_assoc start h.0 (qubit_line gs q m),
-)

@@ -8,8 +8,7 @@ use Rattle.rows.specs.Printed.{refusal_line}
 use Rattle.rows.specs.Steps.{Gate}
 use Rattle.text.specs.Reading.{statements_of, IsCircuit, IsRefused}
 use Rattle.chains.specs.Chained.{Deep, Source, Counts}
-use Rattle.report.specs.declared.feature.Feature.{Feature}
-use Rattle.report.specs.Features.{counted}
+use Rattle.report.specs.Features.{of_kind, on_two, on_qubit, counted}
 
 -- a line of a word and a number
 abbrev pub entry : List ℕ → ℕ → List ℕ
@@ -21,12 +20,12 @@ kinds = Kind.X ∷ Kind.Y ∷ Kind.Z ∷ Kind.H ∷ Kind.S ∷ Kind.Sdag ∷ Kin
 
 -- for a kind, how many gates are of it: `h 3`
 abbrev pub kind_line : List Gate → Kind → List ℕ
-kind_line gs κ = entry (name κ) (counted (Feature.OfKind κ) gs)
+kind_line gs κ = entry (name κ) (counted (of_kind κ) gs)
 
 -- for a qubit, how many gates it takes, and how many qubits its result can depend on: `q0 4 3`
 abbrev pub qubit_line : List Gate → ℕ → ℕ → List ℕ
 qubit_line gs q sources =
-    codes "q" ++ (decimal q ++ (codes " " ++ (decimal (counted (Feature.OnQubit (record { 0 = q })) gs) ++ (codes " " ++ (decimal sources ++ codes "\n")))))
+    codes "q" ++ (decimal q ++ (codes " " ++ (decimal (counted (on_qubit q) gs) ++ (codes " " ++ (decimal sources ++ codes "\n")))))
 
 -- the lines of the qubits below m, in a circuit of n qubits
 abbrev pub QubitLines : ℕ → List Gate → ℕ → List ℕ → Type 0
@@ -40,7 +39,7 @@ counts_report n gs d =
     entry (codes "qubits") n
     ++ (entry (codes "gates") (length gs)
     ++ (flat_map (kind_line gs) kinds
-    ++ (entry (codes "two-qubit") (counted Feature.OnTwo gs)
+    ++ (entry (codes "two-qubit") (counted on_two gs)
     ++ entry (codes "depth") d)))
 
 -- the report is that of a circuit of n qubits with these gates

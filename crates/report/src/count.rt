@@ -1,42 +1,39 @@
-// How many gates have a feature.
-ghost use Rattle.std.specs.Prelude.{◌≡◌, List};
+// The gates of a circuit, and how many pass a test.
+ghost use Rattle.std.specs.Prelude.{◌≡◌, Bool, List};
 ghost use Rattle.rows.specs.Steps.{Gate, gate_at, gate_of};
 ghost use Rattle.chains.specs.Chained.{Decodes};
-ghost use Rattle.report.specs.Features.{shows, marked, counted};
+ghost use Rattle.report.specs.Features.{marked, counted};
 
-use crate::feature::Feature;
 use rows::{Gate as GateRow, Operation};
 
-// Whether the gate has the feature.
-fn has_feature(gate: Operation, feature: Feature) -> bool
-    ensures { result ≡ shows feature (gate_at gate) }
-{
-    match feature {
-        Feature::OfKind(kind) => gate.kind() == kind,
-        Feature::OnTwo => gate.kind().is_double(),
-        Feature::OnQubit(q) => gate.takes(q),
-    }
+// The rows of a circuit, and the number of its qubits.
+#[derive(Clone, Copy)]
+pub(crate) struct Listed<'a> {
+    pub(crate) rows: &'a [GateRow],
+    pub(crate) qubits: u8,
 }
 
-// Whether the row, in a circuit of so many qubits, writes a gate that has the feature.
-fn is_marked(row: GateRow, qubits: u8, feature: Feature) -> bool
-    ensures { result ≡ marked feature (gate_of qubits row) }
+// Whether the row, in a circuit of so many qubits, writes a gate that passes the test.
+fn is_marked<F: Fn(Operation) -> bool>(row: GateRow, qubits: u8, test: &F) -> bool
+    requires { F.IsAlwaysCallable test.now }
+    ensures { (p : Gate → Bool) → ((g : _) (b : Bool) → F.post test.now g b → b ≡ p (gate_at g)) → result ≡ marked p (gate_of qubits row) }
 {
     match row.decode(qubits) {
-        Some(gate) => has_feature(gate, feature),
+        Some(gate) => test(gate),
         None => false,
     }
 }
 
-// How many of the rows' gates have the feature.
-pub(crate) fn count(rows: &[GateRow], qubits: u8, feature: Feature) -> usize
-    ensures { (gs : List Gate) → Decodes qubits rows.now gs → result ≡ counted feature gs }
-{
-    let mut n = 0;
-    for row in rows {
-        if is_marked(*row, qubits, feature) {
-            n += 1;
-        }
+impl Listed<'_> {
+    // How many of its gates pass the test.
+    pub(crate) fn count<F: Fn(Operation) -> bool>(&self, test: F) -> usize
+        requires { F.IsAlwaysCallable test }
+        ensures { (p : Gate → Bool) → ((g : _) (b : Bool) → F.post test g b → b ≡ p (gate_at g)) →
+            (gs : List Gate) → Decodes self.now.qubits self.now.rows.now gs → result ≡ counted p gs }
+    {
+        self.rows
+            .iter()
+            .filter(|row| is_marked(**row, self.qubits, &test))
+            .count()
     }
-    n
 }

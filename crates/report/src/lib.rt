@@ -3,7 +3,6 @@
 #![tactic(auto)]
 
 mod count;
-mod feature;
 mod print;
 mod whole;
 

@@ -2,7 +2,8 @@
 ghost use Rattle.std.specs.Prelude.{◌≡◌, ◌≤◌, length, IfOk, string_bytes};
 ghost use Rattle.report.specs.Report.{Reports};
 
-use crate::print::{show_circuit, show_refusal};
+use crate::count::Listed;
+use crate::print::show_refusal;
 use rows::{Gate as GateRow, Logical};
 use std::alloc::{AllocError, Global};
 use text::{Circuit, read};
@@ -17,7 +18,10 @@ fn report_with(heap: Global, text: &[u8], rows: &mut [GateRow]) -> Result<String
     ensures { IfOk result (λ s. Reports text.now (string_bytes s)) }
 {
     match read(text, rows) {
-        Ok(Circuit { qubits, gates }) => show_circuit(heap, qubits, &rows[0..gates]),
+        Ok(Circuit { qubits, gates }) => {
+            let rows = &rows[0..gates];
+            Listed { rows, qubits }.show(heap)
+        }
         Err(fault) => show_refusal(heap, fault),
     }
 }

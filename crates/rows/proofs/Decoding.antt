@@ -1,48 +1,25 @@
 -- The row of a gate, or of a step, decodes to it again.
-use Rattle.std.proofs.Common.{◌≡◌, ℕ, Bool, true, false, cond, not, ◌&&◌, ◌||◌, eqb, ltb, Some, sym, refl, ap, ◌∙◌}
+use Rattle.std.proofs.Common.{◌≡◌, ℕ, Bool, true, false, cond, not, ◌&&◌, ◌||◌, eqb, ltb, Some, rules, arith, ap, ◌∙◌}
+use Rattle.std.proofs.lemmas.Bool.{not-true}
+use Rattle.std.proofs.lemmas.Bool.Decides.{nat_tests}
 use Rattle.rows.specs.declared.kind.Kind.{Kind}
 use Rattle.rows.specs.Kinds.{code, coded, double, k_suits}
 use Rattle.rows.specs.Steps.{Gate, one, two, gate, swap, kind_of, k_of, pair_below, fits, when, formed, gate_of, as_step, step_of, row_of_gate, written}
 
 coded_code : (κ : Kind) → coded (code κ) ≡ Some κ
-coded_code Kind.X = refl
-coded_code Kind.Y = refl
-coded_code Kind.Z = refl
-coded_code Kind.H = refl
-coded_code Kind.S = refl
-coded_code Kind.Sdag = refl
-coded_code Kind.T = refl
-coded_code Kind.Tdag = refl
-coded_code Kind.Cnot = refl
-coded_code Kind.Cz = refl
-coded_code Kind.Crk = refl
+coded_code κ = search rules
 
 -- no gate's code is that of the exchange
 not_swap : (κ : Kind) → eqb (code κ) 12 ≡ false
-not_swap Kind.X = refl
-not_swap Kind.Y = refl
-not_swap Kind.Z = refl
-not_swap Kind.H = refl
-not_swap Kind.S = refl
-not_swap Kind.Sdag = refl
-not_swap Kind.T = refl
-not_swap Kind.Tdag = refl
-not_swap Kind.Cnot = refl
-not_swap Kind.Cz = refl
-not_swap Kind.Crk = refl
+not_swap κ = search rules
 
 -- the first part of a conjunction that holds
 first_part : (a b : Bool) → (a && b) ≡ true → a ≡ true
-first_part true b h = refl
-first_part false b h = h
-
-not_true : (a : Bool) → not a ≡ true → a ≡ false
-not_true true h = sym h
-not_true false h = refl
+first_part a b h = grind (arith, nat_tests)
 
 formed_one : (n : ℕ) (κ : Kind) (k a : ℕ) → fits n (one κ k a) ≡ true → k_suits κ k ≡ true → formed n (coded (code κ)) a 0 k ≡ Some (one κ k a)
 formed_one n κ k a fit suits =
-    let single : double κ ≡ false = not_true (double κ) (first_part (not (double κ)) (ltb a n) fit) in
+    let single : double κ ≡ false = not-true (double κ) (first_part (not (double κ)) (ltb a n) fit) in
     ap (λ o. formed n o a 0 k) (coded_code κ)
     ∙ (λ i. when ((single i || eqb 0 0) && (suits i && fits n (cond (single i) (two κ k a 0) (one κ k a)))) (cond (single i) (two κ k a 0) (one κ k a)))
     ∙ ap (λ b. when b (one κ k a)) fit

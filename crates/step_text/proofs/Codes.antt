@@ -22,12 +22,6 @@ kind_at c l h = by (coded c) refl
     by None e = (StepKind.Exchange, swap_of c l h e)
     by (Some κ) e = (StepKind.Gate κ, code_of c κ e)
 
-pub code_low : (κ : StepKind) → 1 ≤ step_code κ
-code_low κ = grind (arith, nat_tests)
-
-pub code_high : (κ : StepKind) → step_code κ ≤ 12
-code_high κ = grind (arith, nat_tests)
-
 -- a number that tells the names apart, from the bytes before the first space
 abbrev key : ℕ → List ℕ → ℕ
 key n [] = n

@@ -1,11 +1,12 @@
 -- The wires and k of a line, one after the other.
-use Rattle.std.proofs.Common.{◌≡◌, ℕ, Bool, true, false, List, [], ◌++◌, codes, decimal, sym, refl, ap, ◌∙◌, subst, arith}
+use Rattle.std.proofs.Common.{◌≡◌, ℕ, Bool, true, false, List, [], ◌++◌, codes, decimal, sym, refl, ◌∙◌, subst, arith}
 use Rattle.std.proofs.lemmas.List.{append-nil, append_cancel_left}
 use Rattle.lines.specs.Number.{Digit, Unlike}
 use Rattle.step_text.specs.Kinds.{on_two, has_k}
 use Rattle.step_text.specs.StepLines.{part}
-use Rattle.step_text.specs.Parts.{Begins, Follows, Operands}
-use Rattle.step_text.proofs.Decimal.{begins_same}
+use Rattle.lines.specs.Number.{Begins}
+use Rattle.step_text.specs.Parts.{Follows, Operands}
+use Rattle.lines.proofs.Decimal.{begins_same}
 
 -- no digit follows a number
 part_ends : (w : Bool) (v : ℕ) (rest : List ℕ) → Unlike Digit rest → Unlike Digit (part w v ++ rest)
@@ -15,18 +16,6 @@ part_ends false v rest u = u
 last_ends : (w : Bool) (v : ℕ) → Unlike Digit (part w v)
 last_ends true v = λ d. omega (arith, d.0)
 last_ends false v = tt
-
--- the byte after a comma
-pub from_comma : (s after : List ℕ) (v : ℕ) (rest : List ℕ) → s ≡ codes "," ++ after → Begins 255 after v rest → Follows true s v rest
-from_comma s after v rest cut b = record {
-  small = b.small;
-  unwritten = λ e. absurd (true_not_false e);
-  ended = λ e. b.ended;
-  split = cut ∙ ap (λ (l : List ℕ). codes "," ++ l) b.split;
-}
-  where
-    true_not_false : ¬ (true ≡ false)
-    true_not_false e = let z : ◌≡◌ {A = ℕ} 0 1 = cc in omega arith
 
 pub to_comma : (s after : List ℕ) (v : ℕ) (rest : List ℕ) → s ≡ codes "," ++ after → Follows true s v rest → Begins 255 after v rest
 to_comma s after v rest cut f = record {
@@ -73,17 +62,6 @@ module _ (c : ℕ) (w u : Bool) (p : w ≡ on_two c) (q : u ≡ has_k c) where
 
   pub after_k : (s : List ℕ) (v : ℕ) (r : List ℕ) (x : ℕ) (t : List ℕ) (y : ℕ) (l : List ℕ) → Begins 255 s v r → Follows w r x t → Follows u t y l → (a b k : ℕ) → Operands c s a b k → (y ≡ k) × (l ≡ [])
   after_k s v r x t y l h f g a b k o = follows_same u t y k l [] g (after_second s v r x t h f a b k o).1
-
-  -- a text that was cut into its parts is made of them
-  pub operands_read : (s : List ℕ) (v : ℕ) (r : List ℕ) (x : ℕ) (t : List ℕ) (y : ℕ) (l : List ℕ) → Begins 255 s v r → Follows w r x t → Follows u t y l → l ≡ [] → Operands c s v x y
-  operands_read s v r x t y l h f g e = record {
-    first = h.small;
-    second = f.small;
-    k_small = g.small;
-    single = λ n. f.unwritten (p ∙ n);
-    no_k = λ n. g.unwritten (q ∙ n);
-    is = h.split ∙ ap (λ (m : List ℕ). decimal v ++ m) (f.split ∙ ap (λ (m : List ℕ). part w x ++ m) (g.split ∙ ap (λ (m : List ℕ). part u y ++ m) e ∙ append-nil (part u y))) ∙ (λ i. decimal v ++ (part (p i) x ++ part (q i) y));
-  }
 
 -- a text is made of at most one row's operands
 pub operands_same : (c : ℕ) (s : List ℕ) (a b k x y z : ℕ) → Operands c s a b k → Operands c s x y z → (a ≡ x) × (b ≡ y) × (k ≡ z)

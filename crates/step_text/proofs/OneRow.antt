@@ -1,13 +1,14 @@
 -- A line is that of at most one row.
-use Rattle.std.proofs.Common.{◌≡◌, ℕ, List, ◌++◌, decimal, sym, refl, ap, ◌∙◌, subst, arith}
+use Rattle.std.proofs.Common.{◌≡◌, ℕ, List, sym, refl, ap, ◌∙◌, subst, arith}
 use Rattle.rows.specs.declared.row.Step.{Step as StepRow}
 use Rattle.rows.specs.Steps.{step_row}
 use Rattle.step_text.specs.declared.kind.StepKind.{StepKind}
 use Rattle.step_text.specs.Kinds.{step_code}
 use Rattle.step_text.specs.StepLines.{named, operands, Plain, WritesStep}
-use Rattle.step_text.specs.Parts.{Begins, Operands}
-use Rattle.step_text.proofs.Codes.{kind_at, code_low, code_high, named_same}
-use Rattle.step_text.proofs.Decimal.{begins_same}
+use Rattle.lines.specs.Number.{Begins}
+use Rattle.step_text.specs.Parts.{Operands}
+use Rattle.step_text.proofs.Codes.{kind_at, named_same}
+use Rattle.lines.proofs.Decimal.{begins_same}
 use Rattle.step_text.proofs.Lists.{operands_same}
 
 abbrev pub after_name : StepRow → List ℕ
@@ -48,11 +49,3 @@ one_row line r o w x =
     let same = operands_same (step_code at.0) (after_name r) _ _ _ _ _ _ mine.2 theirs.2 in
     let kinds : r.kind ≡ o.kind = sym at.1 ∙ theirs.1 in
     λ i. step_row (kinds i) (same.0 i) (same.1 i) (same.2 i) (theirs.0 i)
-
--- a line that was cut into its parts is that of the row of the parts
-pub row_read : (line : List ℕ) (v : ℕ) (rest : List ℕ) (κ : StepKind) (t : List ℕ) (c a b k : ℕ) → Begins 4294967295 line v rest → rest ≡ named (step_code κ) t → c ≡ step_code κ → Operands (step_code κ) t a b k →
-    WritesStep line (step_row c a b k v)
-row_read line v rest κ t c a b k h e f o = subst (λ (d : ℕ). WritesStep line (step_row d a b k v)) (sym f) (record {
-  plain = record { low = code_low κ; high = code_high κ; single = o.single; no_k = o.no_k; first = o.first; second = o.second; k = o.k_small; start = h.small };
-  is = h.split ∙ ap (λ (l : List ℕ). decimal v ++ l) (e ∙ ap (λ (l : List ℕ). named (step_code κ) l) o.is);
-})

@@ -1,26 +1,15 @@
 -- The name of a kind at the front of a text.
-use Rattle.std.proofs.Common.{◌≡◌, ℕ, ◌<◌, List, [], ◌∷◌, ◌++◌, length, get_or, codes, sym, refl, ap, ◌∙◌, subst, arith, lit≤}
+use Rattle.std.proofs.Common.{◌≡◌, ℕ, ◌<◌, List, ◌∷◌, ◌++◌, length, get_or, codes, sym, refl, ap, ◌∙◌, subst, arith, lit≤}
 use Rattle.std.specs.List.{AllByRecursion}
 use Rattle.std.proofs.lemmas.List.{append_cancel_left}
-use Rattle.names.proofs.Peel.{Reads, ReadsAt, reads_from}
 use Rattle.lines.specs.Number.{Digit}
 use Rattle.lines.specs.Tokens.{Letter, Longest, Fronts}
 use Rattle.lines.specs.declared.token.Token.{Token}
-use Rattle.lines.proofs.Runs.{longest_same, longest_first, longest_some}
+use Rattle.lines.proofs.Runs.{longest_same, longest_first}
 use Rattle.rows.specs.declared.kind.Kind.{Kind}
 use Rattle.step_text.specs.declared.kind.StepKind.{StepKind}
 use Rattle.step_text.specs.Kinds.{step_code, step_name}
 use Rattle.step_text.specs.StepLines.{named}
-
--- a word whose bytes and whose length are known
-same_word : (p s : List ℕ) → length s ≡ length p → Reads s p → s ≡ p
-same_word [] [] n h = refl
-same_word [] (a ∷ s) n h = absurd (omega (arith, n))
-same_word (b ∷ p) [] n h = absurd h
-same_word (b ∷ p) (a ∷ s) n h = λ i. h.0 i ∷ same_word p s (omega (arith, n)) h.1 i
-
-pub word_is : (p s : List ℕ) → length s ≡ length p → ReadsAt s 0 p → s ≡ p
-word_is p s n h = same_word p s n (reads_from p s (omega (arith, n)) h)
 
 -- a name is made of letters, and has one at least
 letters : (κ : StepKind) → AllByRecursion Letter (step_name (step_code κ))
@@ -66,15 +55,9 @@ name_token s (Token.Mark m) after w rest f l other = f.1.no_letter (subst Letter
 cut : (s t : List ℕ) (κ : StepKind) (rest : List ℕ) → s ≡ 32 ∷ t → s ≡ named (step_code κ) rest → Longest Letter t (step_name (step_code κ)) (codes " " ++ rest)
 cut s t κ rest p e = name_run κ t rest (append_cancel_left (codes " ") t _ (sym p ∙ e))
 
-pub no_token : (s t : List ℕ) (κ : StepKind) (rest : List ℕ) → s ≡ 32 ∷ t → s ≡ named (step_code κ) rest → t ≡ [] → ⊥
-no_token s t κ rest p e n = omega (arith, ap length n, longest_some Letter _ _ _ (cut s t κ rest p e))
-
 pub no_word : (s t : List ℕ) (k : Token) (after : List ℕ) (κ : StepKind) (rest : List ℕ) → s ≡ 32 ∷ t → Fronts t k after → s ≡ named (step_code κ) rest → ((d : _) → ¬ (k ≡ Token.Name d)) → ⊥
 no_word s t k after κ rest p f e other = name_token t k after _ _ f (cut s t κ rest p e) other
 
 -- the word is the name, and a space comes after it
 pub word_and_space : (s t w after : List ℕ) (κ : StepKind) (rest : List ℕ) → s ≡ 32 ∷ t → Longest Letter t w after → s ≡ named (step_code κ) rest → (w ≡ step_name (step_code κ)) × (after ≡ 32 ∷ rest)
 word_and_space s t w after κ rest p l e = longest_same Letter t w _ after _ l (cut s t κ rest p e)
-
-pub name_read : (s t w after : List ℕ) (κ : StepKind) (rest : List ℕ) → s ≡ 32 ∷ t → Longest Letter t w after → w ≡ step_name (step_code κ) → after ≡ 32 ∷ rest → s ≡ named (step_code κ) rest
-name_read s t w after κ rest p l e f = p ∙ ap (λ (x : List ℕ). 32 ∷ x) (l.split ∙ (λ i. e i ++ f i))

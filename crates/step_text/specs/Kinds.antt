@@ -1,6 +1,7 @@
 -- The kinds of steps by their codes: 1 to 11 for the kinds of gates, 12 for the exchange of two wires.
-use Rattle.std.specs.Prelude.{ℕ, Bool, true, List, Some, None, codes, Option, ◌==◌}
+use Rattle.std.specs.Prelude.{◌≡◌, ℕ, Bool, true, List, Some, None, codes, Option, Result, MatchResult, ◌==◌}
 use Rattle.rows.specs.declared.kind.Kind.{Kind}
+use Rattle.rows.specs.declared.kind.NoKind.{NoKind}
 use Rattle.rows.specs.Kinds.{code, coded, double, name}
 use Rattle.step_text.specs.declared.kind.StepKind.{StepKind}
 
@@ -30,3 +31,7 @@ has_k c = c == 11
 abbrev pub step_code : StepKind → ℕ
 step_code (StepKind.Gate κ) = code κ
 step_code StepKind.Exchange = 12
+
+-- the kind of this code, or none where it is no kind's code
+abbrev pub StepCoded : ℕ → Result StepKind NoKind → Type 0
+StepCoded number r = MatchResult r (λ κ. step_code κ ≡ number) (λ e. (κ : StepKind) → ¬ (step_code κ ≡ number))

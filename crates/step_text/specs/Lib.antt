@@ -1,3 +1,4 @@
 pub mod Kinds
+pub mod Errors
 pub mod StepLines
 pub mod Parts

@@ -1,14 +1,8 @@
 -- The parts of a step's line, as they are read from its front.
-use Rattle.std.specs.Prelude.{◌≡◌, ℕ, ◌≤◌, Bool, true, false, List, ◌++◌, decimal}
+use Rattle.std.specs.Prelude.{◌≡◌, ℕ, ◌≤◌, Bool, true, false, List, ◌++◌}
 use Rattle.lines.specs.Number.{Digit, Unlike}
 use Rattle.step_text.specs.Kinds.{on_two, has_k}
 use Rattle.step_text.specs.StepLines.{part, operands}
-
--- s begins with the number v, at most limit and with no leading zero, and goes on with rest
-pub record Begins (limit : ℕ) (s : List ℕ) (v : ℕ) (rest : List ℕ) : Type 0 where
-  pub small : v ≤ limit
-  pub ended : Unlike Digit rest
-  pub split : s ≡ decimal v ++ rest
 
 -- s begins with a comma and the number v if one is written, else v is 0; it goes on with rest
 pub record Follows (written : Bool) (s : List ℕ) (v : ℕ) (rest : List ℕ) : Type 0 where

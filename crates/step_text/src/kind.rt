@@ -1,8 +1,8 @@
 // The kinds of steps.
-ghost use Rattle.std.specs.Prelude.{◌≡◌, MatchOption};
-ghost use Rattle.step_text.specs.Kinds.{step_code, step_name, on_two, has_k};
+ghost use Rattle.std.specs.Prelude.{◌≡◌};
+ghost use Rattle.step_text.specs.Kinds.{step_code, step_name, on_two, has_k, StepCoded};
 
-use rows::Kind;
+use rows::{Kind, NoKind};
 
 /// What a step does: a gate of a kind, or the exchange of two wires.
 #[derive(Clone, Copy)]
@@ -11,18 +11,22 @@ pub(crate) enum StepKind {
     Exchange,
 }
 
-impl StepKind {
-    /// The kind with this code, if there is one.
-    pub(crate) fn of(number: u8) -> Option<StepKind>
-        ensures { MatchOption result ((κ : StepKind) → ¬ (step_code κ ≡ number)) (λ κ. step_code κ ≡ number) }
-    {
-        if number == 12 {
-            return Some(StepKind::Exchange);
-        }
-        let kind = Kind::try_from(number).ok()?;
-        Some(StepKind::Gate(kind))
-    }
+impl TryFrom<u8> for StepKind {
+    type Error = NoKind;
 
+    ghost try_from_gives = { StepCoded };
+
+    /// The kind with this code, or the number if it is no kind's code.
+    fn try_from(number: u8) -> Result<StepKind, NoKind> {
+        if number == 12 {
+            return Ok(StepKind::Exchange);
+        }
+        let kind = Kind::try_from(number)?;
+        Ok(StepKind::Gate(kind))
+    }
+}
+
+impl StepKind {
     /// The code of the kind.
     pub(crate) fn code(self) -> u8
         ensures { result ≡ step_code self }

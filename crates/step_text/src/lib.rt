@@ -2,12 +2,13 @@
 
 #![tactic(auto)]
 
+mod error;
 mod kind;
 mod name;
-mod number;
 mod operands;
 mod print;
 mod step;
 
+pub use error::WriteError;
 pub use print::{write_refusal, write_step};
 pub use step::step_of;

@@ -1,52 +1,34 @@
 // The name of a step's kind.
-ghost use Rattle.std.specs.Prelude.{◌≡◌, ℕ, List, ◌∷◌, MatchOption};
+ghost use Rattle.std.specs.Prelude.{◌≡◌, ℕ, List, MatchOption};
 ghost use Rattle.step_text.specs.Kinds.{step_code, step_name};
 ghost use Rattle.step_text.specs.StepLines.{named};
 
 use crate::kind::StepKind;
 use lines::{Token, front};
-use rows::Kind;
-
-// What comes after this byte at the front of `s`.
-pub(crate) fn after(mark: u8, s: &[u8]) -> Option<&[u8]>
-    ensures { MatchOption result ((rest : List ℕ) → ¬ (s.now ≡ mark ∷ rest)) (λ rest. s.now ≡ mark ∷ rest.now) }
-{
-    let [first, rest @ ..] = s else {
-        return None;
-    };
-    if *first == mark { Some(rest) } else { None }
-}
 
 // The kind with this name.
 fn kind_named(word: &[u8]) -> Option<StepKind>
     ensures { MatchOption result ((κ : StepKind) → ¬ (word.now ≡ step_name (step_code κ))) (λ κ. word.now ≡ step_name (step_code κ)) }
 {
-    let kind = match word {
-        [b'x'] => Kind::X,
-        [b'y'] => Kind::Y,
-        [b'z'] => Kind::Z,
-        [b'h'] => Kind::H,
-        [b's'] => Kind::S,
-        [b's', b'd', b'a', b'g'] => Kind::Sdag,
-        [b't'] => Kind::T,
-        [b't', b'd', b'a', b'g'] => Kind::Tdag,
-        [b'c', b'n', b'o', b't'] => Kind::Cnot,
-        [b'c', b'z'] => Kind::Cz,
-        [b'c', b'r', b'k'] => Kind::Crk,
-        [b's', b'w', b'a', b'p'] => return Some(StepKind::Exchange),
-        _ => return None,
-    };
-    Some(StepKind::Gate(kind))
+    for code in 1..13 {
+        let kind = StepKind::try_from(code).ok()?;
+        if kind.name().as_bytes() == word {
+            return Some(kind);
+        }
+    }
+    None
 }
 
 // The kind whose name stands between two spaces at the front of `s`, and what comes after them.
 pub(crate) fn step_name(s: &[u8]) -> Option<(StepKind, &[u8])>
     ensures { MatchOption result ((κ : StepKind) (rest : List ℕ) → ¬ (s.now ≡ named (step_code κ) rest)) (λ x. s.now ≡ named (step_code x.0) x.1.now) }
 {
-    let (token, rest) = front(after(b' ', s)?)?;
+    let text = s.strip_prefix(b" ")?;
+    let (token, spaced) = front(text)?;
     let Token::Name(word) = token else {
         return None;
     };
     let kind = kind_named(word)?;
-    Some((kind, after(b' ', rest)?))
+    let rest = spaced.strip_prefix(b" ")?;
+    Some((kind, rest))
 }

@@ -1,18 +1,18 @@
 // The wires of a step's line, and its k.
 ghost use Rattle.std.specs.Prelude.{ℕ, List, MatchOption};
 ghost use Rattle.step_text.specs.Kinds.{step_code};
-ghost use Rattle.step_text.specs.Parts.{Begins, Follows, Operands};
+ghost use Rattle.lines.specs.Number.{Begins};
+ghost use Rattle.step_text.specs.Parts.{Follows, Operands};
 
 use crate::kind::StepKind;
-use crate::name::after;
-use crate::number::number;
+use lines::number_up_to;
 use rows::Wire;
 
 // The number at the front of `s`, if it is a byte, and what comes after it.
 fn byte(s: &[u8]) -> Option<(u8, &[u8])>
     ensures { MatchOption result ((v : ℕ) (rest : List ℕ) → ¬ Begins 255 s.now v rest) (λ x. Begins 255 s.now x.0 x.1.now) }
 {
-    let (v, rest) = number(s, 255)?;
+    let (v, rest) = number_up_to(s, 255)?;
     Some((v as u8, rest))
 }
 
@@ -21,7 +21,7 @@ fn part(written: bool, s: &[u8]) -> Option<(u8, &[u8])>
     ensures { MatchOption result ((v : ℕ) (rest : List ℕ) → ¬ Follows written s.now v rest) (λ x. Follows written s.now x.0 x.1.now) }
 {
     if written {
-        byte(after(b',', s)?)
+        byte(s.strip_prefix(b",")?)
     } else {
         Some((0, s))
     }

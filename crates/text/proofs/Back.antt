@@ -1,7 +1,6 @@
 -- A circuit written out, with comments and empty lines between, is read back.
 use Rattle.std.proofs.Common.{◌≡◌, ℕ, ◌+◌, ◌-◌, ◌<◌, ◌≤◌, Bool, true, false, cond, not, ◌&&◌, eqb, ltb, ◌⊎◌, List, [], ◌∷◌, ◌++◌, map, length, get_or, drop, Ok, Result, sym, refl, ap, ◌∙◌, subst, inl, inr, arith}
 use Rattle.std.specs.List.{AllByRecursion}
-use Rattle.std.proofs.lemmas.List.{append_assoc}
 use Rattle.std.proofs.lemmas.Bool.Decides.{nat_tests}
 use Rattle.rows.specs.declared.refusal.Fault.{Fault}
 use Rattle.rows.specs.declared.row.Gate.{Gate as GateRow}
@@ -12,14 +11,9 @@ use Rattle.lines.specs.Grammar.{heading, line_of, Writes, Within, Doubled}
 use Rattle.lines.proofs.Judging.{is_accepted}
 use Rattle.text.specs.declared.circuit.Circuit.{Circuit}
 use Rattle.text.specs.Reading.{onto, lines, skipped, Statement, statements, statements_of, Gates, IsCircuit, room, filled, Reading, OnlyReading}
-use Rattle.text.specs.Writing.{Spaced, Unbroken, ended, MadeOf, SmallCircuit, ReadsBack, ReadAs}
-use Rattle.text.proofs.FirstLine.{line_then}
+use Rattle.text.specs.Writing.{Spaced, ended, MadeOf, SmallCircuit, ReadsBack, ReadAs}
+use Rattle.text.proofs.FirstLine.{lines_ended}
 use Rattle.text.proofs.Unique.{reading_same}
-
--- the lines of lines put together are these lines
-lines_ended : (ls : List (List ℕ)) → AllByRecursion Unbroken ls → lines (ended ls) ≡ ls
-lines_ended [] h = refl
-lines_ended (l ∷ ls) h = ap lines (append_assoc l (10 ∷ []) (ended ls)) ∙ line_then l (ended ls) h.0 ∙ ap (λ k. l ∷ k) (lines_ended ls h.1)
 
 -- a byte 10 at the end of a text ends its last line, or adds an empty one
 

@@ -1,11 +1,11 @@
 -- How far the reader has come among the statements of gates.
-use Rattle.std.proofs.Common.{◌≡◌, ℕ, ◌+◌, ◌-◌, ◌<◌, ◌≤◌, List, [], ◌∷◌, ◌++◌, map, length, drop, set, sym, refl, ap, ◌∙◌, subst, inl, inr, arith}
+use Rattle.std.proofs.Common.{◌≡◌, ℕ, ◌+◌, ◌-◌, ◌<◌, ◌≤◌, List, [], ◌∷◌, ◌++◌, map, length, drop, set, sym, refl, ap, ◌∙◌, subst, inr, arith}
 use Rattle.std.proofs.lemmas.List.{append-nil, append_assoc, length_push, length-map, map_push, set-append_right, drop_more}
 use Rattle.rows.specs.declared.refusal.Refusal.{Refusal}
 use Rattle.rows.specs.declared.refusal.Fault.{Fault}
 use Rattle.rows.specs.declared.row.Gate.{Gate as GateRow}
 use Rattle.rows.specs.Steps.{Gate, row_of_gate}
-use Rattle.rows.specs.Refusals.{Accepted, Turned}
+use Rattle.rows.specs.Refusals.{Accepted}
 use Rattle.lines.specs.Grammar.{Writes, no_row}
 use Rattle.text.specs.Reading.{Statement, StatementFits, Gates, FirstRefused}
 use Rattle.text.specs.Steps.{Filled}
@@ -19,18 +19,6 @@ pub record Reached (n room : ℕ) (all rest : List Statement) (count : ℕ) (old
   pub rows : new ≡ map row_of_gate done ++ drop count old
   pub more : (gs : List Gate) → Gates n (room - count) rest gs → Gates n room all (done ++ gs)
   pub refused : (f : Fault) → FirstRefused n (room - count) rest f → FirstRefused n room all f
-
-pub reached_none : (n room : ℕ) (all : List Statement) (old : List GateRow) → Reached n room all all 0 old old
-reached_none n room all old =
-    let same : room - 0 ≡ room = omega arith in
-    record {
-      done = [];
-      counted = refl;
-      fit = omega arith;
-      rows = refl;
-      more = λ gs h. subst (λ left. Gates n left all gs) same h;
-      refused = λ f h. subst (λ left. FirstRefused n left all f) same h;
-    }
 
 -- where a statement is accepted, a row is left
 pub row_left : (n left : ℕ) (s : Statement) → Accepted (StatementFits n left s) → ¬ (left ≡ 0)
@@ -64,9 +52,6 @@ module _ (n room : ℕ) (all rest after : List Statement) (s : Statement) (count
             (r.more (g ∷ gs) (subst (λ ss. Gates n (room - count) ss (g ∷ gs)) (sym next) (ok, w, subst (λ left. Gates n left after gs) (sym less) h)));
         refused = λ f h. r.refused f (subst (λ ss. FirstRefused n (room - count) ss f) (sym next) (inr (ok, subst (λ left. FirstRefused n left after f) (sym less) h)));
       }
-
-  pub refused_here : (f : Fault) → Turned (StatementFits n (room - count) s) f → FirstRefused n room all f
-  refused_here f h = r.refused f (subst (λ ss. FirstRefused n (room - count) ss f) (sym next) (inl h))
 
 pub all_filled : (n room : ℕ) (all rest : List Statement) (count : ℕ) (old new : List GateRow) → Reached n room all rest count old new → rest ≡ [] → Filled n room all count old new
 all_filled n room all rest count old new r none = record {

@@ -1,11 +1,11 @@
 -- The statements of a text, line by line.
-use Rattle.std.proofs.Common.{◌≡◌, ℕ, ◌+◌, ◌<◌, true, false, cond, eqb, List, [], ◌∷◌, length, get_or, sym, refl, ap, ◌∙◌, arith}
+use Rattle.std.proofs.Common.{◌≡◌, ℕ, ◌<◌, false, eqb, List, [], ◌∷◌, length, get_or, sym, refl, ap, ◌∙◌, arith}
 use Rattle.std.proofs.lemmas.Bool.Decides.{nat_tests}
 use Rattle.lines.specs.declared.token.Token.{Token}
 use Rattle.lines.specs.Number.{Digit}
 use Rattle.lines.specs.Tokens.{Letter, Fronts}
 use Rattle.lines.proofs.Runs.{longest_first, longest_some}
-use Rattle.text.specs.Reading.{lines, skipped, statements}
+use Rattle.text.specs.Reading.{skipped}
 
 -- a line that begins with another byte than # is not skipped
 pub begins_other : (s : List ℕ) → 0 < length s → ¬ (get_or s 0 0 ≡ 35) → skipped s ≡ false
@@ -22,12 +22,3 @@ token_unskipped s (Token.Number w) after f other = begins_other s (longest_some 
 token_unskipped s (Token.Comment w) after f other = absurd (other w refl)
 token_unskipped s (Token.Mark b) after f other =
     begins_other s (omega (arith, ap length f.0)) (λ e. f.1.no_hash (sym (ap (λ l. get_or l 0 0) f.0) ∙ e))
-
-module _ (at : ℕ) (rest line after : List ℕ) (cut : lines rest ≡ line ∷ lines after) where
-  pub statements_skip : skipped line ≡ true → statements at (lines rest) ≡ statements (at + 1) (lines after)
-  statements_skip h =
-      ap (statements at) cut ∙ ap (λ b. cond b (statements (at + 1) (lines after)) (record { number = at; bytes = line } ∷ statements (at + 1) (lines after))) h
-
-  pub statements_keep : skipped line ≡ false → statements at (lines rest) ≡ record { number = at; bytes = line } ∷ statements (at + 1) (lines after)
-  statements_keep h =
-      ap (statements at) cut ∙ ap (λ b. cond b (statements (at + 1) (lines after)) (record { number = at; bytes = line } ∷ statements (at + 1) (lines after))) h

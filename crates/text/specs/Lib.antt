@@ -1,3 +1,5 @@
 pub mod Reading
 pub mod Writing
+pub mod Cutting
 pub mod Steps
+pub mod Lexing

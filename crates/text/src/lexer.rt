@@ -1,7 +1,7 @@
 // The statements of a text, one after the other: each a line with its number and its first token.
-ghost use Rattle.std.specs.Prelude.{◌≡◌, ℕ, ◌+◌, ◌^◌, ◌<◌, true, false, List, [], ◌∷◌, length, IfSome, MatchOption};
+ghost use Rattle.std.specs.Prelude.{◌≡◌, ℕ, ◌+◌, ◌^◌, ◌<◌, true, false, List, length, MatchOption};
 ghost use Rattle.lines.specs.Tokens.{Fronts};
-ghost use Rattle.text.specs.Reading.{skipped, lines, statements};
+ghost use Rattle.text.specs.Reading.{skipped};
 
 use crate::cutting::first_line;
 use lines::{Token, front};
@@ -44,16 +44,20 @@ impl<'a> Lexer<'a> {
             passed: 0,
         }
     }
+}
+
+impl<'a> Iterator for Lexer<'a> {
+    ghost use Rattle.std.specs.Iterator.{at_most};
+    ghost use Rattle.text.specs.Lexing.{Lexes};
+
+    type Item = Word<'a>;
+
+    ghost next_gives = { Lexes };
+
+    ghost remaining = { λ s. at_most (length s.rest.now) };
 
     /// The next statement, if there is one more; else all of the text is passed.
-    pub fn next(&mut self) -> Option<Word<'a>>
-        ensures statement { MatchOption result
-            ((statements (self.old.passed + 1) (lines self.old.rest.now) ≡ []) × (self.new.rest.now ≡ []))
-            (λ w. statements (self.old.passed + 1) (lines self.old.rest.now)
-            ≡ record { number = w.line; bytes = w.bytes.now } ∷ statements (self.new.passed + 1) (lines self.new.rest.now)) }
-        ensures token { IfSome result (λ w. (after : List ℕ) × Fronts w.bytes.now w.token after) }
-        ensures shorter { IfSome result (λ w. length self.new.rest.now < length self.old.rest.now) }
-    {
+    fn next(&mut self) -> Option<Word<'a>> {
         while !self.rest.is_empty() {
             let (line, after) = first_line(self.rest);
             self.rest = after;

@@ -8,5 +8,6 @@ mod lexer;
 mod reader;
 
 pub use circuit::Circuit;
+pub use cutting::first_line;
 pub use lexer::{Lexer, Word};
 pub use reader::read;

@@ -1,7 +1,8 @@
 // The reading of a whole text.
 ghost use Rattle.std.specs.Prelude.{◌≡◌, ℕ, ◌+◌, ◌<◌, ◌≤◌, min, List, [], ◌∷◌, ◌++◌, map, length, take, drop, Err, MatchResult};
 ghost use Rattle.rows.specs.declared.row.Gate.{Gate};
-ghost use Rattle.text.specs.Reading.{lines, statements, statements_of, FirstRefused};
+ghost use Rattle.text.specs.Reading.{statements_of, FirstRefused};
+ghost use Rattle.text.specs.Lexing.{left};
 ghost use Rattle.text.specs.Writing.{ReadAs};
 ghost use Rattle.text.specs.Steps.{Headed, NotHeaded, Filled, Found};
 
@@ -23,9 +24,8 @@ fn room_for(lent: usize) -> usize
 // The number of qubits, by the first statement.
 fn read_heading(lexer: &mut Lexer) -> Result<u8, Fault>
     ensures { MatchResult result
-        (λ n. Headed (statements (lexer.old.passed + 1) (lines lexer.old.rest.now)) n
-        (statements (lexer.new.passed + 1) (lines lexer.new.rest.now)))
-        (λ f. NotHeaded (statements (lexer.old.passed + 1) (lines lexer.old.rest.now)) f) }
+        (λ n. Headed (left lexer.old) n (left lexer.new))
+        (λ f. NotHeaded (left lexer.old) f) }
 {
     let Some(word) = lexer.next() else {
         return Err(Fault {
@@ -43,26 +43,18 @@ fn read_heading(lexer: &mut Lexer) -> Result<u8, Fault>
 }
 
 // Writes the gates of the statements that are left into the front of a table, at most `room`, and answers how many.
-fn read_gates(mut lexer: Lexer, qubits: u8, room: usize, table: &mut [Gate]) -> Result<usize, Fault>
+fn read_gates(lexer: Lexer, qubits: u8, room: usize, table: &mut [Gate]) -> Result<usize, Fault>
     requires { room ≤ length table.old }
     ensures { MatchResult result
-        (λ count. Filled qubits room (statements (lexer.entry.passed + 1) (lines lexer.entry.rest.now)) count table.old table.new)
-        (λ f. FirstRefused qubits room (statements (lexer.entry.passed + 1) (lines lexer.entry.rest.now)) f) }
+        (λ count. Filled qubits room (left lexer.entry) count table.old table.new)
+        (λ f. FirstRefused qubits room (left lexer.entry) f) }
 {
     let mut count = 0;
-    while let Some(word) = lexer.next() {
+    for word in lexer {
         table[count] = gate_of(word.bytes, word.line, qubits, room - count)?;
         count += 1;
     }
     Ok(count)
-}
-
-// Copies the first `count` rows of a table.
-fn copy_front(rows: &mut [Gate], table: &[Gate], count: usize)
-    requires { (count ≤ length rows.old) × (count ≤ length table.now) }
-    ensures { rows.new ≡ take count table.now ++ drop count rows.old }
-{
-    rows[0..count].copy_from_slice(&table[0..count]);
 }
 
 // Reads a circuit's text into the front of a table, for rows of which so many are lent.
@@ -89,7 +81,8 @@ fn deliver(
     requires tabled { 1024 ≤ length table.now }
     ensures { ReadAs text.now rows.old rows.new result }
 {
-    copy_front(rows, table, circuit.gates);
+    let count = circuit.gates;
+    rows[..count].copy_from_slice(&table[..count]);
     Ok(circuit)
 }
 
@@ -98,6 +91,7 @@ fn deliver(
 pub fn read(text: &[u8], rows: &mut [Gate]) -> Result<Circuit, Fault>
     ensures { ReadAs text.now rows.old rows.new result }
 {
+    // An array, and the count in the circuit, not a Vec: no call of this layer may allocate, as it is turned away only by the listed refusals.
     let mut table = [Gate {
         kind: 0,
         first: Logical(0),

@@ -1,10 +1,11 @@
-use Rattle.check_text.proofs.Reading.{reached_more, reached_all}
+use Rattle.std.proofs.Common.{Ok, subst}
+use Rattle.text.specs.declared.lexer.Lexer.{Lexer}
+use Rattle.text.specs.Lexing.{left}
+use Rattle.check_text.specs.Stepping.{ReadsAll}
+use Rattle.check_text.proofs.Reading.{reached_all}
 use Rattle.check_text.proofs.steps.read_all.Goals as goal
 
-pub loop-word-preserved : goal.loop-word-preserved
-loop-word-preserved c =
-    reached_more _ _ _ (record { number = c.in-Some.word.line; bytes = c.in-Some.word.bytes.now }) _ _ c.in-Some-step_of.step
-    c.in-Some.ensures.statement c.in-Some-step_of.ensures.reads c.in_ok-push.ensures.items c.loop-word.invariant
-
 pub returns : goal.returns
-returns c = reached_all _ _ _ c.in_default.ensures.statement.0 c.loop-word.invariant
+returns c =
+    subst (λ (s : Lexer). ReadsAll (left s) (Ok c.loop-word.trials)) c.into_iter-word-iterator.ensures.into_iter_gives
+    (reached_all _ _ _ c.in-None.ensures.steps.0 c.loop-word.invariant)

@@ -1,10 +1,6 @@
-use Rattle.std.proofs.Common.{string_bytes, arith}
-use Rattle.report.proofs.FromReading.{made_so, reports_same, rows_fit, rows_decode, circuit_reported, circuit_small, refusal_reported}
+use Rattle.std.proofs.Common.{string_bytes}
+use Rattle.report.proofs.FromReading.{made_so, reports_same, rows_decode, circuit_reported, circuit_small, refusal_reported}
 use Rattle.report.proofs.whole.report_with.Goals as goal
-
-pub slice_bounds-show_circuit-end : goal.slice_bounds-show_circuit-end
-slice_bounds-show_circuit-end c =
-    omega (arith, rows_fit c.args.text.now c.args.rows.now c.read.new.rows c.requires.many c.in-Ok.field-0 c.in-Ok.ensures.reads)
 
 pub returns-in-Ok : goal.returns-in-Ok
 returns-in-Ok c =
@@ -13,9 +9,9 @@ returns-in-Ok c =
     let rows = c.args.rows.now in
     let new = c.read.new.rows in
     let small = circuit_small text rows new c.requires.many c.in-Ok.field-0 h in
-    made_so c.show_circuit.result _ _ (λ s e. circuit_reported text rows new c.requires.many c.in-Ok.field-0 h c.requires.short (string_bytes s)
+    made_so c.show.result _ _ (λ s e. circuit_reported text rows new c.requires.many c.in-Ok.field-0 h c.requires.short (string_bytes s)
     (e h.0 (rows_decode text rows new c.requires.many c.in-Ok.field-0 h) small.0 small.1 small.2))
-    c.show_circuit.ensures
+    c.show.ensures
 
 pub returns-in-Err : goal.returns-in-Err
 returns-in-Err c =

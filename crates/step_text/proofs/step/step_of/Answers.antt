@@ -1,4 +1,4 @@
-use Rattle.step_text.proofs.OneRow.{no_name, after_named, one_row, row_read}
+use Rattle.step_text.proofs.OneRow.{no_name, after_named, one_row}
 use Rattle.step_text.proofs.step.step_of.Goals as goal
 
 pub returns-in_err-kind : goal.returns-in_err-kind
@@ -14,8 +14,5 @@ returns-in_err-first c = record {
   only = one_row c.args.line.now;
 }
 
-pub returns : goal.returns
-returns c = record {
-  reads = row_read _ _ _ c.in_ok-kind.kind _ _ _ _ _ c.in_ok-start.ensures c.in_ok-kind.ensures c.code.ensures c.in_ok-first.ensures;
-  only = one_row c.args.line.now;
-}
+pub returns-clause-only : goal.returns-clause-only
+returns-clause-only c = one_row c.args.line.now

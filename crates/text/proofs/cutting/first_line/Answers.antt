@@ -1,13 +1,18 @@
-use Rattle.std.proofs.Common.{rules}
-use Rattle.text.proofs.FirstLine.{Cut, cut_end, cut_middle}
+use Rattle.std.proofs.Common.{◌≡◌, ◌<◌, length, get_or, rules}
+use Rattle.text.proofs.FirstLine.{Without, cut_at, uncut, rest_shorter, lines_first}
 use Rattle.text.proofs.cutting.first_line.Goals as goal
-use Rattle.text.proofs.cutting.first_line.Goals.{After-split_at}
+use Rattle.text.proofs.cutting.first_line.Goals.{In-Some, In-None}
 
-cut : (c : After-split_at) → Cut c.args.text.now c.line_len-n.result c.split_at.result.0.now c.split_at.result.1.now
-cut c = record { some = c.requires; within = c.line_len-n.ensures.within; before = c.line_len-n.ensures.before; found = c.line_len-n.ensures.found; front = c.split_at.ensures.front; back = c.split_at.ensures.back }
+pub returns-in-Some : goal.returns-in-Some
+returns-in-Some c =
+    let before : Without c.args.text.now c.in-Some.n = search rules in
+    let within : c.in-Some.n < length c.args.text.now = search rules in
+    let ten : get_or c.args.text.now c.in-Some.n 0 ≡ 10 = search rules in
+    let cut = cut_at c.args.text.now c.in-Some.n within before ten in
+    record { cut = cut; lines = λ some. lines_first _ _ _ some cut; shorter = λ some. rest_shorter _ _ _ some cut }
 
-pub returns-in-empty : goal.returns-in-empty
-returns-in-empty c = let h = cut_end _ _ _ _ (cut (goal.at.returns-in-empty c).After-split_at) (search rules) in record { lines = h.0; shorter = h.1 }
-
-pub returns-in-len1-up : goal.returns-in-len1-up
-returns-in-len1-up c = let h = cut_middle _ _ _ _ (cut (goal.at.returns-in-len1-up c).After-split_at) (search rules) in record { lines = h.0; shorter = h.1 }
+pub returns-in-None : goal.returns-in-None
+returns-in-None c =
+    let none : Without c.args.text.now (length c.args.text.now) = search rules in
+    let cut = uncut c.args.text.now none in
+    record { cut = cut; lines = λ some. lines_first _ _ _ some cut; shorter = λ some. rest_shorter _ _ _ some cut }

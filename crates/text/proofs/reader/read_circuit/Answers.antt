@@ -1,8 +1,8 @@
 use Rattle.std.proofs.Common.{◌≡◌, ◌+◌, min, subst}
 use Rattle.std.proofs.lemmas.Result.{err_from_is_err_and}
 use Rattle.text.specs.Reading.{lines, statements, statements_of, FirstRefused}
-use Rattle.text.specs.Steps.{Headed, NotHeaded, Filled}
-use Rattle.text.proofs.Whole.{not_headed, refused_later, refused_as, found, from_start}
+use Rattle.text.specs.Steps.{Headed, NotHeaded}
+use Rattle.text.proofs.Whole.{not_headed, refused_later, refused_as, from_start}
 use Rattle.text.proofs.reader.read_circuit.Goals as goal
 use Rattle.text.proofs.reader.read_circuit.Goals.{After-new-lexer}
 
@@ -25,12 +25,3 @@ returns-in_err-gates c =
     let headed = subst (λ ss. Headed ss n rest) (start (goal.at.returns-in_err-gates c).After-new-lexer) c.in_ok-qubits.ensures in
     let later = subst (λ k. FirstRefused n k rest f) c.room_for.ensures c.in_err-gates.ensures in
     rw (p.1, p.2) (refused_as c.args.text.now c.args.lent f (refused_later (min 1024 c.args.lent) (statements_of c.args.text.now) rest n f headed later))
-
-pub returns : goal.returns
-returns c =
-    let rest = statements (c.read_heading.new.lexer.passed + 1) (lines c.read_heading.new.lexer.rest.now) in
-    let n = c.in_ok-qubits.qubits in
-    let count = c.in_ok-gates.gates in
-    let headed = subst (λ ss. Headed ss n rest) (start (goal.at.returns c).After-new-lexer) c.in_ok-qubits.ensures in
-    let filled = subst (λ k. Filled n k rest count c.args.table.now c.read_gates.new.table) c.room_for.ensures c.in_ok-gates.ensures in
-    found (min 1024 c.args.lent) (statements_of c.args.text.now) rest n count c.args.table.now c.read_gates.new.table headed filled
