@@ -54,19 +54,10 @@ fn bytes_of(heap: Global, times: Times, records: &[u8]) -> Result<Vec<u8>, Alloc
     Ok(bytes)
 }
 
-/// The book of a layout with these rows for its gates, or why it is refused.
-pub(crate) fn lay_rows(
-    heap: Global,
-    layout: &Layout,
-    gates: &[Gate],
-) -> Result<Result<Book, Fault>, AllocError> {
-    let bytes = bytes_of(heap, layout.times, layout.records)?;
+/// The book of a layout with these records and these rows for its gates, or why it is refused.
+fn lay_on<'a>(layout: &Layout, chip: ChipRecords<'a>, gates: &'a [Gate]) -> Result<Book, Fault> {
     let ability = ability_of(layout.width, layout.kinds);
-    let chip = ChipRecords {
-        wires: layout.wires,
-        bytes: &bytes,
-    };
-    Ok(Book::lay(
+    Book::lay(
         &ability,
         plan::Layout {
             chip,
@@ -74,7 +65,21 @@ pub(crate) fn lay_rows(
             places: layout.places,
             gates,
         },
-    ))
+    )
+}
+
+/// The book of a layout with these rows for its gates, or why it is refused.
+pub(crate) fn lay_rows(
+    heap: Global,
+    layout: &Layout,
+    gates: &[Gate],
+) -> Result<Result<Book, Fault>, AllocError> {
+    let bytes = bytes_of(heap, layout.times, layout.records)?;
+    let chip = ChipRecords {
+        wires: layout.wires,
+        bytes: &bytes,
+    };
+    Ok(lay_on(layout, chip, gates))
 }
 
 /// The book of a layout, or why it is refused.
