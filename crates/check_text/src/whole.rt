@@ -42,41 +42,36 @@ fn judge(heap: Global, mut book: Book, input: &[u8]) -> Result<String, CheckErro
     Ok(out)
 }
 
-// Lays the input's circuit, of so many qubits and with these gates, and offers it the steps.
-fn lay_and_judge(
-    heap: Global,
+// An input, and the chip that its steps are for: the number of the chip's wires, and its records.
+#[derive(Clone, Copy)]
+struct Case<'a> {
     wires: u8,
-    records: &[u8],
-    input: &[u8],
-    qubits: u8,
-    gates: &[GateRow],
-) -> Result<String, CheckError>
-    ensures { (gs : List Gate) → gates.now ≡ map row_of_gate gs → CircuitOf input.now qubits gs → Replies wires records.now input.now result }
-{
-    let places = first_places(heap, qubits)?;
-    let ability = Ability::all(64);
-    match Book::lay(&ability, wires, records, qubits, &places, gates) {
-        Ok(book) => judge(heap, book, input),
-        Err(fault) => Ok(refused(heap, fault)?),
-    }
+    records: &'a [u8],
+    input: &'a [u8],
 }
 
-// The reply to an input whose circuit is read into these rows.
-fn reply_with(
-    heap: Global,
-    wires: u8,
-    records: &[u8],
-    input: &[u8],
-    rows: &mut [GateRow],
-) -> Result<String, CheckError>
-    requires { length rows.old ≡ 1024 }
-    ensures { Replies wires records.now input.now result }
-{
-    match read(circuit_part(input), rows) {
-        Ok(Circuit { qubits, gates }) => {
-            lay_and_judge(heap, wires, records, input, qubits, &rows[0..gates])
+impl Case<'_> {
+    // Lays the input's circuit, of so many qubits and with these gates, and offers it the steps.
+    fn judged(&self, heap: Global, qubits: u8, gates: &[GateRow]) -> Result<String, CheckError>
+        ensures { (gs : List Gate) → gates.now ≡ map row_of_gate gs → CircuitOf self.now.input.now qubits gs → Replies self.now.wires self.now.records.now self.now.input.now result }
+    {
+        let places = first_places(heap, qubits)?;
+        let ability = Ability::all(64);
+        match Book::lay(&ability, self.wires, self.records, qubits, &places, gates) {
+            Ok(book) => judge(heap, book, self.input),
+            Err(fault) => Ok(refused(heap, fault)?),
         }
-        Err(fault) => Ok(refused(heap, fault)?),
+    }
+
+    // The reply to the input, whose circuit is read into these rows.
+    fn reply(&self, heap: Global, rows: &mut [GateRow]) -> Result<String, CheckError>
+        requires { length rows.old ≡ 1024 }
+        ensures { Replies self.now.wires self.now.records.now self.now.input.now result }
+    {
+        match read(circuit_part(self.input), rows) {
+            Ok(Circuit { qubits, gates }) => self.judged(heap, qubits, &rows[0..gates]),
+            Err(fault) => Ok(refused(heap, fault)?),
+        }
     }
 }
 
@@ -91,5 +86,10 @@ pub fn reply(heap: Global, wires: u8, records: &[u8], input: &[u8]) -> Result<St
         second: Logical(0),
         k: 0,
     }; 1024];
-    reply_with(heap, wires, records, input, &mut rows)
+    let case = Case {
+        wires,
+        records,
+        input,
+    };
+    case.reply(heap, &mut rows)
 }

@@ -1,6 +1,6 @@
 use Rattle.std.proofs.Common.{◌∙◌}
 use Rattle.check_text.proofs.Judging.{refused_so, judged_so}
-use Rattle.check_text.proofs.whole.lay_and_judge.Goals as goal
+use Rattle.check_text.proofs.whole.Case.judged.Goals as goal
 
 pub returns-in-Ok : goal.returns-in-Ok
 returns-in-Ok c gs e circuit =

@@ -1,5 +1,5 @@
 use Rattle.check_text.proofs.Judging.{text_so}
-use Rattle.check_text.proofs.whole.reply_with.Goals as goal
+use Rattle.check_text.proofs.whole.Case.reply.Goals as goal
 
 pub returns-in_ok-refused-in-Err : goal.returns-in_ok-refused-in-Err
 returns-in_ok-refused-in-Err c =
