@@ -16,20 +16,15 @@ fn offer(book: &mut Book, step: Step) -> Option<Fault>
     ensures answers { (l : SheetLog) → Holds book.old l →
         (m : SheetLog) × AnswersOne (plan_in book.old.plan) l step result m × Holds book.new m }
 {
-    match book.keep(step) {
-        Ok(_) => None,
-        Err(fault) => Some(fault),
-    }
+    book.keep(step).err()
 }
 
 /// Offers all steps in turn, each kept or refused.
 fn offer_all(book: &mut Book, trials: &mut [Trial])
     ensures plays { Plays book.old trials.old book.new trials.new }
 {
-    for i in 0..trials.len() {
-        let step = trials[i].step;
-        let answer = offer(book, step);
-        trials[i] = Trial { step, answer };
+    for trial in trials.iter_mut() {
+        trial.answer = offer(book, trial.step);
     }
 }
 

@@ -2,26 +2,22 @@
 
 #![tactic(auto)]
 
-ghost use Rattle.std.specs.Prelude.{◌≡◌, Bool, false, min, refl};
-ghost use Rattle.machine.specs.Local.{Cells, local};
+ghost use Rattle.std.specs.Prelude.{◌≡◌, false, refl, ⊤};
+ghost use Rattle.machine.specs.Local.{local};
 ghost use Rattle.machine.specs.Machines.{HasTrueCnot};
-ghost use Rattle.cells.specs.Tables.{made_of};
 ghost use Rattle.bits.specs.Flips.{bits_rule, bit_of, all_clear};
-ghost use Rattle.bits.specs.Means.{bits_means};
-ghost use Rattle.machine.proofs.LocalLaws.{local_lawful};
 
-use cells::{Local, Width, count_wires, fill_cells, gate_cells, read_cell, trade_cells};
-use machine::{Double, Machine, Single, TrueCnot};
+use cells::{Local, Table, TrueLocal, Width};
+use machine::{Double, Single};
 use rows::{Kind, Wire};
 
-/// A bit a wire.
-#[derive(Clone, Copy)]
-pub struct Bits {
-    bits: [bool; 64],
-    width: Width,
-}
+/// The rule of bits: x flips its bit, and cnot adds the first to the second.
+pub struct BitsRule;
 
-impl Local for Bits {
+/// A bit a wire.
+pub type Bits = Table<BitsRule, bool>;
+
+impl Local for BitsRule {
     type Cell = bool;
 
     ghost rule = { bits_rule };
@@ -30,21 +26,30 @@ impl Local for Bits {
 
     ghost blank = { false };
 
+    ghost fresh = { all_clear };
+
+    ghost Promise = { HasTrueCnot (local bits_rule) };
+
+    ghost FreshPromise = { λ _ _. ⊤ };
+
     ghost zero = { λ _. refl };
+
+    ghost begun = { λ _. record { wide = refl; plus = refl; past = λ _ _. refl } };
 
     fn make(_width: u8, number: u64) -> bool {
         number % 2 == 1
     }
 
+    fn begin(_width: Width, _wire: Wire) -> bool {
+        false
+    }
+
     fn shown(cell: bool) -> u64 {
-        if cell { 1 } else { 0 }
+        u64::from(cell)
     }
 
     fn known(kind: Kind) -> bool {
-        match kind {
-            Kind::X | Kind::Cnot => true,
-            _ => false,
-        }
+        matches!(kind, Kind::X | Kind::Cnot)
     }
 
     fn single(_kind: Kind, _k: u8, cell: bool) -> Single<bool> {
@@ -61,58 +66,10 @@ impl Local for Bits {
             flips: false,
         }
     }
+
+    fn promise(_width: Width) {}
 }
 
-impl Bits {
-    /// The bits are the lowest of the numbers, 0 where there is none. More than 64 wires count as 64.
-    pub fn new(width: u8, numbers: &[u64]) -> Bits
-        ensures made { bits_means result ≡ made_of bit_of (min width 64) numbers.now false }
-        ensures true_cnot { HasTrueCnot (local bits_rule) }
-    {
-        let width = Width::new(width);
-        let mut bits = [false; 64];
-        fill_cells::<Bits>(&mut bits, width, numbers);
-        Bits { bits, width }
-    }
-
-    /// 0 on every wire.
-    pub fn fresh(width: u8) -> Bits
-        ensures { bits_means result ≡ all_clear (min width 64) }
-    {
-        Bits::new(width, &[])
-    }
-}
-
-impl Machine for Bits {
-    ghost State = { Cells Bool };
-
-    ghost means = { bits_means };
-
-    ghost acts = { local bits_rule };
-
-    ghost lawful = { local_lawful bits_rule };
-
-    fn width(&self) -> u8 {
-        count_wires::<Bits>(&self.bits, self.width)
-    }
-
-    fn knows(&self, kind: Kind) -> bool {
-        <Bits as Local>::known(kind)
-    }
-
-    fn gate(&mut self, kind: Kind, a: Wire, b: Wire, k: u8) {
-        let _ = gate_cells::<Bits>(&mut self.bits, false, self.width, kind, a, b, k);
-    }
-
-    fn exchange(&mut self, a: Wire, b: Wire) {
-        trade_cells::<Bits>(&mut self.bits, self.width, a, b);
-    }
-
-    fn read(&self, wire: Wire) -> u64 {
-        read_cell::<Bits>(&self.bits, self.width, wire)
-    }
-}
-
-impl TrueCnot for Bits {
-    fn true_cnot(&self, _a: Wire, _b: Wire) {}
+impl TrueLocal for BitsRule {
+    fn cross() {}
 }

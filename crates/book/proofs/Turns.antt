@@ -24,9 +24,6 @@ module _ (N n : ℕ) (places : List ℕ) (good : GoodPlaces N n places) where
   same_qubit : (a c : ℕ) → a < n → c < n → get_or places a 0 ≡ get_or places c 0 → a ≡ c
   same_qubit a c h k e = good.one_to_one a c h k e
 
-  abbrev Ones : Gate → Gate → Type 0
-  Ones g h = at places g ≡ at places h → g ≡ h
-
   pub at_same : (g h : Gate) → first_of g < n → second_of g < n → first_of h < n → second_of h < n → at places g ≡ at places h → g ≡ h
   at_same (one κ k a) (one κ' k' c) f s f' s' e =
       let q : a ≡ c = same_qubit a c f f' (cc) in let r : κ ≡ κ' = cc in let w : k ≡ k' = cc in cc

@@ -6,6 +6,8 @@ mod write;
 use places::Places;
 
 /// The present places, which gates are done, the cycle from which each wire is free, and what is counted.
+// Arrays for all gates and wires, not Vecs: no call of this layer may allocate, as it is turned away only by the listed
+// refusals.
 #[derive(Clone, Copy)]
 pub(crate) struct Log {
     pub(crate) places: Places,

@@ -13,7 +13,7 @@ use Rattle.sheet.specs.Refusals.{LayFits}
 use Rattle.sheet.specs.Runs.{AllKept}
 use Rattle.plan.specs.declared.ability.Ability.{Ability}
 use Rattle.plan.specs.Abilities.{known}
-use Rattle.plan.specs.Laying.{plan_in, Fits, LaysPlan}
+use Rattle.plan.specs.Laying.{plan_in, layout, Fits, LaysPlan}
 use Rattle.book.specs.declared.book.Book.{Book}
 use Rattle.book.specs.declared.verdict.Counts.{Counts}
 use Rattle.book.specs.Books.{Holds, tallied}
@@ -31,7 +31,7 @@ rows = gate_row 7 2 0 0 ∷ gate_row 9 0 3 0 ∷ []
 
 -- the layout is accepted, so it is laid
 pub laid_square : (a : Ability) → a.width ≡ 4 → ((κ : Kind) → known a.kinds κ ≡ true) → (r : Result Book Fault) →
-    MatchResult r (λ b. LaysPlan a 4 square_records 4 wires rows b.plan × Holds b (fresh (plan_in b.plan))) (λ f. Turned (Fits a 4 square_records 4 wires rows) f) →
+    MatchResult r (λ b. LaysPlan a (layout 4 square_records 4 wires rows) b.plan × Holds b (fresh (plan_in b.plan))) (λ f. Turned (Fits a (layout 4 square_records 4 wires rows)) f) →
     MatchResult r (λ b. (plan_in b.plan ≡ plan) × Holds b (fresh plan)) (λ f. ⊥)
 laid_square a w k (Ok b) (x, y) = (x.given, subst (λ (p : Plan). Holds b (fresh p)) x.given y)
 laid_square a w k (Err f) t =

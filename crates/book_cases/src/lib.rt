@@ -10,7 +10,8 @@ ghost use Rattle.book_cases.specs.Square.{plan, SquareCases};
 
 use audit::{Trial, audit};
 use book::{Book, Counts};
-use plan::Ability;
+use chip::ChipRecords;
+use plan::{Ability, Layout};
 use rows::{Fault, Gate, Logical, Step, Wire};
 
 /// The square chip: durations, then the couplings 0-1, 0-2, 1-3, 2-3.
@@ -40,7 +41,19 @@ fn lay_square() -> Result<Book, Fault>
             k: 0,
         },
     ];
-    Book::lay(&ability, 4, &SQUARE, 4, &places, &gates)
+    let chip = ChipRecords {
+        wires: 4,
+        bytes: &SQUARE,
+    };
+    Book::lay(
+        &ability,
+        Layout {
+            chip,
+            qubits: 4,
+            places: &places,
+            gates: &gates,
+        },
+    )
 }
 
 /// A step that is not offered yet.

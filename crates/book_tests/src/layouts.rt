@@ -771,10 +771,8 @@ fn check_case(
 }
 
 fn check_cases(rt: &impl Abort, heap: Global, what: &str, cases: &[Case]) -> Result<(), Fail> {
-    let mut n = 0usize;
-    for case in cases {
+    for (n, case) in cases.iter().enumerate() {
         check_case(rt, heap, what, n, case)?;
-        n = n.wrapping_add(1);
     }
     Ok(())
 }

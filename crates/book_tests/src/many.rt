@@ -3,6 +3,7 @@ use crate::sheets::Answer::{Clear, Exchange, Gate, Refused};
 use crate::sheets::*;
 use crate::tools::{check_offers, cleared, gate_of, judged, lay_rows, step_of};
 use book::Book;
+use chip::ChipRecords;
 use plan::Ability;
 use rows::{Gate as GateRow, Wire};
 use std::alloc::{AllocError, Global};
@@ -114,7 +115,19 @@ fn as_many_wires_as_fit(rt: HostRuntime) -> Result<(), Fail> {
         gate_of(Line(CZ, 63, 62, 0)),
         gate_of(Line(X, 32, 0, 0)),
     ];
-    let mut book = Book::lay(&Ability::all(64), 64, &bytes, 64, &places, &gates)?;
+    let chip = ChipRecords {
+        wires: 64,
+        bytes: &bytes,
+    };
+    let mut book = Book::lay(
+        &Ability::all(64),
+        plan::Layout {
+            chip,
+            qubits: 64,
+            places: &places,
+            gates: &gates,
+        },
+    )?;
     check_offers(&rt, rt.alloc(), &mut book, &WIDE)?;
     assert_eq!(rt; cleared(&book), Clear(3, 4, 1, 7));
     Ok(())

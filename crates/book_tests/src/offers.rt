@@ -9,12 +9,11 @@ use std::test::Fail;
 
 /// The first wires are still those of the layout.
 fn check_first(rt: &impl Abort, n: usize, book: &Book, places: &[Wire]) {
-    let mut q = 0u8;
-    for wire in places {
+    for (q, wire) in (0..=255).zip(places) {
         assert_eq!(rt; book.first_wire_of(Logical(q)), Some(*wire), "script {n}");
-        q = q.wrapping_add(1);
     }
-    assert_eq!(rt; book.first_wire_of(Logical(q)), None, "script {n}");
+    let past = Logical(u8::try_from(places.len()).unwrap_or(255));
+    assert_eq!(rt; book.first_wire_of(past), None, "script {n}");
 }
 
 fn check_script(rt: &impl Abort, heap: Global, n: usize, script: &Script) -> Result<(), Fail> {
@@ -27,10 +26,8 @@ fn check_script(rt: &impl Abort, heap: Global, n: usize, script: &Script) -> Res
 
 #[test]
 fn scripts(rt: HostRuntime) -> Result<(), Fail> {
-    let mut n = 0usize;
-    for script in SCRIPTS.iter() {
+    for (n, script) in SCRIPTS.iter().enumerate() {
         check_script(&rt, rt.alloc(), n, script)?;
-        n = n.wrapping_add(1);
     }
     Ok(())
 }

@@ -1,6 +1,7 @@
 // What the tests share: laying, offering a step, and what a book shows.
 use crate::sheets::{Answer, ELEVEN, EVEN, Layout, Line, Look, Row, Times, UNEVEN};
 use book::{Book, Turn};
+use chip::ChipRecords;
 use plan::Ability;
 use rows::{Fault, Gate, Kind, Logical, Step, Wire};
 use std::alloc::{AllocError, Global};
@@ -61,13 +62,18 @@ pub(crate) fn lay_rows(
 ) -> Result<Result<Book, Fault>, AllocError> {
     let bytes = bytes_of(heap, layout.times, layout.records)?;
     let ability = ability_of(layout.width, layout.kinds);
+    let chip = ChipRecords {
+        wires: layout.wires,
+        bytes: &bytes,
+    };
     Ok(Book::lay(
         &ability,
-        layout.wires,
-        &bytes,
-        layout.qubits,
-        layout.places,
-        gates,
+        plan::Layout {
+            chip,
+            qubits: layout.qubits,
+            places: layout.places,
+            gates,
+        },
     ))
 }
 

@@ -193,10 +193,8 @@ fn check_stage(
 #[test]
 fn stages(rt: HostRuntime) -> Result<(), Fail> {
     let mut book = lay(rt.alloc(), &STAGED)?;
-    let mut n = 0usize;
-    for stage in STAGES.iter() {
+    for (n, stage) in STAGES.iter().enumerate() {
         check_stage(&rt, rt.alloc(), n, &mut book, stage)?;
-        n = n.wrapping_add(1);
     }
     Ok(())
 }

@@ -6,6 +6,6 @@ mod rule;
 mod table;
 mod width;
 
-pub use rule::Local;
-pub use table::{count_wires, fill_cells, gate_cells, read_cell, trade_cells};
+pub use rule::{Local, Signed, TrueLocal};
+pub use table::Table;
 pub use width::Width;

@@ -1,9 +1,12 @@
 // What one wire holds.
 ghost use Rattle.std.specs.Prelude.{◌≡◌, ℕ};
-ghost use Rattle.machine.specs.Local.{Rule};
+ghost use Rattle.machine.specs.Machines.{HasTrueCnot};
+ghost use Rattle.machine.specs.Local.{Rule, Cells, local};
+ghost use Rattle.cells.specs.Tables.{Begun};
 
+use crate::width::Width;
 use machine::{Double, Single};
-use rows::Kind;
+use rows::{Kind, Wire};
 
 /// A rule by which gates change the cells of their own wires.
 pub trait Local {
@@ -17,9 +20,22 @@ pub trait Local {
 
     ghost blank: { Self.Cell };
 
+    // the state with which so many wires begin
+    ghost fresh: { ℕ → Cells Self.Cell };
+
+    // what is promised of the rule
+    ghost Promise: { Type 0 };
+
+    // what is promised of the state with which so many wires begin
+    ghost FreshPromise: { ℕ → Cells Self.Cell → Type 0 };
+
     /// The cell of a number, in a machine of so many wires; bits that no reading can answer are dropped.
     fn make(width: u8, number: u64) -> Self::Cell
         ensures { result ≡ made width number };
+
+    /// The cell with which a wire begins, in a machine of so many wires.
+    fn begin(width: Width, wire: Wire) -> Self::Cell
+        ensures { result ≡ (fresh width.n).cell wire.0 };
 
     /// The cell as a number.
     fn shown(cell: Self::Cell) -> u64
@@ -37,6 +53,23 @@ pub trait Local {
     fn double(kind: Kind, k: u8, first: Self::Cell, second: Self::Cell) -> Double<Self::Cell>
         ensures { result ≡ rule.double kind k first second };
 
+    /// Says what is promised of the rule: it is called for what it promises, and does nothing.
+    fn promise(width: Width)
+        ensures always { Promise }
+        ensures begun { FreshPromise width.n (fresh width.n) };
+
     // the number 0 makes the blank cell
     ghost zero: { (n : ℕ) → made n 0 ≡ blank };
+
+    ghost begun: { (n : ℕ) → Begun blank n (fresh n) };
+}
+
+/// A rule by which gates may flip the sign.
+pub trait Signed: Local {}
+
+/// A rule by which three cnots are the exchange.
+pub trait TrueLocal: Local {
+    /// Says so: it is called for what it promises, and does nothing.
+    fn cross()
+        ensures { HasTrueCnot (local Self.rule) };
 }

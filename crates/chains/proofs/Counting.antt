@@ -1,16 +1,30 @@
--- Numbers that have a property, counted one by one.
-use Rattle.std.proofs.Common.{◌≡◌, ℕ, zero, suc, ◌+◌, ◌≤◌, sym, subst, inl, inr, add-one, arith}
+-- Numbers that have a property, counted.
+use Rattle.std.proofs.Common.{◌≡◌, ℕ, zero, suc, ◌<◌, ◌≤◌, Bool, true, false, List, length, get_or, take, sym, refl, ap, ◌∙◌, subst, inl, inr, ⊎_elim, add-one, arith}
+use Rattle.std.specs.List.{range_with_len, count_by}
+use Rattle.std.proofs.lemmas.Bool.{cases_Bool}
+use Rattle.std.proofs.lemmas.List.{take_all}
+use Rattle.std.proofs.lemmas.List.FromFn.{length-range_with_len, get_or-range_with_len}
+use Rattle.std.proofs.lemmas.List.Sums.{count_by_more_yes, count_by_more_no}
 use Rattle.chains.specs.Chained.{Counts}
 
-module _ (P : ℕ → Type 0) (j s m : ℕ) where
-  pub counts_yes : Counts P j s × (s ≤ j) → P j → m ≡ s + 1 → Counts P (j + 1) m × (m ≤ j + 1)
-  counts_yes h p e = (subst (λ k. Counts P k m) (sym (add-one j)) (inl (p, (s, h.0, e))), omega (arith, h.1))
+module _ (P : ℕ → Type 0) (p : ℕ → Bool) (yes : (j : ℕ) → p j ≡ true → P j) (no : (j : ℕ) → p j ≡ false → ¬ P j) (n : ℕ) where
+  abbrev below : List ℕ
+  below = range_with_len 0 n
 
-  pub counts_no : Counts P j s × (s ≤ j) → ¬ P j → m ≡ s → Counts P (j + 1) m × (m ≤ j + 1)
-  counts_no h p e = (subst (λ k. Counts P k m) (sym (add-one j)) (inr (p, subst (Counts P j) (sym e) h.0)), omega (arith, h.1))
+  at : (i : ℕ) → i < n → get_or below i 0 ≡ i
+  at i h = get_or-range_with_len 0 n i 0 h ∙ omega arith
 
--- the same numbers under another name for the property
-pub counts_same : (P Q : ℕ → Type 0) (n s : ℕ) → ((j : ℕ) → P j → Q j) → ((j : ℕ) → Q j → P j) → Counts P n s → Counts Q n s
-counts_same P Q zero s to from h = h
-counts_same P Q (suc n) s to from (inl h) = inl (to n h.0, (h.1.0, counts_same P Q n h.1.0 to from h.1.1, h.1.2))
-counts_same P Q (suc n) s to from (inr h) = inr ((λ q. h.0 (from n q)), counts_same P Q n s to from h.1)
+  front : (i : ℕ) → i ≤ n → Counts P i (count_by p (take i below))
+  front zero h = refl
+  front (suc i) h =
+      let l : i < n = omega arith in
+      let inside : i < length below = omega (arith, length-range_with_len 0 n) in
+      let next = ap (λ (k : ℕ). count_by p (take k below)) (sym (add-one i)) in
+      ⊎_elim
+      (λ (e : p i ≡ true). inl (yes i e, (count_by p (take i below), front i (omega arith), next ∙ count_by_more_yes p below i 0 inside (ap p (at i l) ∙ e))))
+      (λ (e : p i ≡ false). inr (no i e, subst (Counts P i) (sym (next ∙ count_by_more_no p below i 0 inside (ap p (at i l) ∙ e))) (front i (omega arith))))
+      (cases_Bool (p i))
+
+  -- a test of the property counts the numbers below n that have it
+  pub counts_by : Counts P n (count_by p below)
+  counts_by = subst (λ (l : List ℕ). Counts P n (count_by p l)) (take_all n below (omega (arith, length-range_with_len 0 n))) (front n (omega arith))

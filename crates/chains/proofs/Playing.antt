@@ -1,21 +1,10 @@
 -- A circuit run on a machine, row by row.
-use Rattle.std.proofs.Common.{◌≡◌, ℕ, zero, suc, ◌+◌, ◌<◌, Bool, true, false, List, [], ◌∷◌, ◌++◌, map, length, get_or, take, drop, Some, None, sym, refl, ap, ◌∙◌, arith}
+use Rattle.std.proofs.Common.{◌≡◌, ℕ, zero, suc, ◌+◌, ◌<◌, List, [], ◌∷◌, ◌++◌, map, length, get_or, take, drop, Some, None, sym, refl, ap, ◌∙◌, arith}
 use Rattle.std.proofs.lemmas.List.{length-map, map_push, take_more}
-use Rattle.rows.specs.declared.kind.Kind.{Kind}
 use Rattle.rows.specs.declared.row.Gate.{Gate as GateRow}
-use Rattle.rows.specs.Kinds.{coded}
-use Rattle.rows.specs.Steps.{Gate, Step, gate, gate_on, when, well_formed, formed, gate_of}
+use Rattle.rows.specs.Steps.{Gate, Step, gate, gate_of}
 use Rattle.machine.specs.Machines.{Acts, act, run}
 use Rattle.chains.specs.Chained.{Decodes}
-
-when_some : (t : Bool) (x g : Gate) → when t x ≡ Some g → x ≡ g
-when_some true x g e = cc
-when_some false x g e = let z : ◌≡◌ {A = ℕ} 0 1 = cc in absurd (omega arith)
-
--- a row that writes a gate writes the gate of its kind, at its places
-pub gate_from : (n : ℕ) (row : GateRow) (κ : Kind) (g : Gate) → Some κ ≡ coded row.kind → gate_of n row ≡ Some g → gate_on κ row.k row.first.0 row.second.0 ≡ g
-gate_from n row κ g kind e =
-    when_some (well_formed n κ row.first.0 row.second.0 row.k) _ g (ap (λ o. formed n o row.first.0 row.second.0 row.k) kind ∙ e)
 
 run_push : {State : Type 0} (m : Acts State) (ts : List Step) (t : Step) (u : State) → run m (ts ++ t ∷ []) u ≡ act m t (run m ts u)
 run_push m [] t u = refl

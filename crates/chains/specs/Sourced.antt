@@ -2,13 +2,11 @@
 use Rattle.std.specs.Prelude.{ℕ, ◌<◌, ◌↔◌, List}
 use Rattle.rows.specs.Steps.{Gate}
 use Rattle.machine.specs.Local.{local}
-use Rattle.cone.specs.declared.Cone.{Cone}
 use Rattle.cone.specs.Sets.{cone_rule, In}
-use Rattle.cone.specs.Means.{cone_means}
-use Rattle.depth.specs.declared.Depth.{Depth}
+use Rattle.cone.specs.Means.{Cone, cone_means}
 use Rattle.depth.specs.Counts.{depth_rule}
 use Rattle.depth.specs.Longest.{Longest}
-use Rattle.depth.specs.Means.{depth_means}
+use Rattle.depth.specs.Means.{Depth, depth_means}
 use Rattle.chains.specs.declared.sources.Sources.{Sources}
 use Rattle.chains.specs.Chained.{Source}
 

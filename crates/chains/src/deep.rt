@@ -17,11 +17,7 @@ use rows::{Gate as GateRow, Wire};
 fn greatest(machine: &Depth, n: u8) -> u64
     ensures { Greatest ((local depth_rule).reads (depth_means machine.now)) n result }
 {
-    let mut most = 0;
-    for q in 0..n {
-        most = machine.read(Wire(q)).max(most);
-    }
-    most
+    (0..n).map(|q| machine.read(Wire(q))).max().unwrap_or(0)
 }
 
 // The counts of the wires after a circuit of at most 64 qubits.

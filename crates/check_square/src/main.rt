@@ -5,12 +5,13 @@
 
 use anyhow::anyhow;
 use check_text::reply;
-use shipped::{Shipped, chip_named};
+use chip::ChipRecords;
+use shipped::chip_named;
 use std::env;
 use std::io::Read;
 
 // The chip that the first argument names.
-fn chosen(rt: &HostRuntime) -> anyhow::Result<Shipped> {
+fn chosen(rt: &HostRuntime) -> anyhow::Result<ChipRecords<'static>> {
     let mut args = env::args(rt)?;
     let name = match args.nth(1) {
         Some(name) => name,
@@ -26,7 +27,7 @@ fn run(rt: &HostRuntime) -> anyhow::Result<()> {
     let chip = chosen(rt)?;
     let mut input = Vec::new(rt.alloc());
     rt.stdin().read_to_end(&mut input)?;
-    let lines = reply(rt.alloc(), chip.wires, chip.records, &input)?;
+    let lines = reply(rt.alloc(), chip, &input)?;
     print!(rt; "{lines}")?;
     Ok(())
 }

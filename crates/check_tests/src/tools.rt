@@ -13,7 +13,7 @@ fn reply_on(
     let Some(chip) = chip_named(chip) else {
         return Err(Fail::new("no such chip"));
     };
-    Ok(reply(rt.alloc(), chip.wires, chip.records, input))
+    Ok(reply(rt.alloc(), chip, input))
 }
 
 // The reply on the chip of this name is these lines.

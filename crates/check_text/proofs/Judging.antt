@@ -49,7 +49,7 @@ all_offered b b' input out ss xs ys zs r found read plays clears same shown l h 
 -- what an able machine's refusals are
 module _ (a : Ability) (wires : ℕ) (records : List ℕ) (n : ℕ) (places : List Wire) (rows : List GateRow) (gs : List Gate)
     (width : a.width ≡ 64) (kinds : (κ : Kind) → known a.kinds κ ≡ true) (ordered : places ≡ in_order n) (written : rows ≡ map row_of_gate gs) where
-  same_fits : (P : (Refusal → ℕ → Type 0) → Type 0) → P (Fits a wires records n places rows) → P (LayoutFits wires records n gs)
+  same_fits : (P : (Refusal → ℕ → Type 0) → Type 0) → P (Fits a (layout wires records n places rows)) → P (LayoutFits wires records n gs)
   same_fits P h =
       let every : known a.kinds ≡ (λ κ. true) = λ i κ. kinds κ i in
       subst (λ (k : ℕ). P (LayFits k (λ κ. true) unlaid (laid_out wires records n gs))) width
@@ -58,10 +58,10 @@ module _ (a : Ability) (wires : ℕ) (records : List ℕ) (n : ℕ) (places : Li
       (subst (λ (rs : List GateRow). P (LayFits a.width (known a.kinds) unlaid (layout wires records n places rs))) written h)))
 
   module _ (input : List ℕ) (circuit : CircuitOf input n gs) where
-    pub refused_so : (f : Fault) → Turned (Fits a wires records n places rows) f → (s : String Global) → string_bytes s ≡ refusal_line f → Replies wires records input (Ok s)
+    pub refused_so : (f : Fault) → Turned (Fits a (layout wires records n places rows)) f → (s : String Global) → string_bytes s ≡ refusal_line f → Replies wires records input (Ok s)
     refused_so f t s says = subst (Prints wires records input) (sym says) (layout_refused n gs circuit f (same_fits (λ F. Turned F f) t))
 
-    laid : (b : Book) → LaysPlan a wires records n places rows b.plan → Laid wires records input (plan_in b.plan)
+    laid : (b : Book) → LaysPlan a (layout wires records n places rows) b.plan → Laid wires records input (plan_in b.plan)
     laid b h = record {
       n = n;
       gs = gs;
@@ -70,7 +70,7 @@ module _ (a : Ability) (wires : ℕ) (records : List ℕ) (n : ℕ) (places : Li
       given = h.given ∙ (λ i. plan_of (layout wires records n (ordered i) (written i)));
     }
 
-    pub judged_so : (b : Book) → LaysPlan a wires records n places rows b.plan → Holds b (fresh (plan_in b.plan)) → (x : Result (String Global) CheckError) →
+    pub judged_so : (b : Book) → LaysPlan a (layout wires records n places rows) b.plan → Holds b (fresh (plan_in b.plan)) → (x : Result (String Global) CheckError) →
         ((l : Log) → Holds b l → Judged (plan_in b.plan) l input x) → Replies wires records input x
     judged_so b h holds (Ok s) j = judged (plan_in b.plan) (laid b h) (string_bytes s) (j (fresh (plan_in b.plan)) holds)
     judged_so b h holds (Err (CheckError.Unreadable line)) j = ((plan_in b.plan, laid b h), j (fresh (plan_in b.plan)) holds)

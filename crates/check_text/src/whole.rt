@@ -13,7 +13,8 @@ use crate::print::show_answers;
 use crate::steps::read_steps;
 use audit::audit;
 use book::Book;
-use plan::Ability;
+use chip::ChipRecords;
+use plan::{Ability, Layout};
 use rows::{Fault, Gate as GateRow, Logical, Wire};
 use std::alloc::{AllocError, Global};
 use text::{Circuit, read};
@@ -42,43 +43,52 @@ fn judge(heap: Global, mut book: Book, input: &[u8]) -> Result<String, CheckErro
     Ok(out)
 }
 
-// An input, and the chip that its steps are for: the number of the chip's wires, and its records.
-#[derive(Clone, Copy)]
-struct Case<'a> {
-    wires: u8,
-    records: &'a [u8],
-    input: &'a [u8],
-}
-
-impl Case<'_> {
-    // Lays the input's circuit, of so many qubits and with these gates, and offers it the steps.
-    fn judged(&self, heap: Global, qubits: u8, gates: &[GateRow]) -> Result<String, CheckError>
-        ensures { (gs : List Gate) → gates.now ≡ map row_of_gate gs → CircuitOf self.now.input.now qubits gs → Replies self.now.wires self.now.records.now self.now.input.now result }
-    {
-        let places = first_places(heap, qubits)?;
-        let ability = Ability::all(64);
-        match Book::lay(&ability, self.wires, self.records, qubits, &places, gates) {
-            Ok(book) => judge(heap, book, self.input),
-            Err(fault) => Ok(refused(heap, fault)?),
-        }
-    }
-
-    // The reply to the input, whose circuit is read into these rows.
-    fn reply(&self, heap: Global, rows: &mut [GateRow]) -> Result<String, CheckError>
-        requires { length rows.old ≡ 1024 }
-        ensures { Replies self.now.wires self.now.records.now self.now.input.now result }
-    {
-        match read(circuit_part(self.input), rows) {
-            Ok(Circuit { qubits, gates }) => self.judged(heap, qubits, &rows[0..gates]),
-            Err(fault) => Ok(refused(heap, fault)?),
-        }
+// Lays the input's circuit, of so many qubits and with these gates, and offers it the steps.
+fn lay_and_judge(
+    heap: Global,
+    chip: ChipRecords,
+    input: &[u8],
+    qubits: u8,
+    gates: &[GateRow],
+) -> Result<String, CheckError>
+    ensures { (gs : List Gate) → gates.now ≡ map row_of_gate gs → CircuitOf input.now qubits gs → Replies chip.entry.wires chip.entry.bytes.now input.now result }
+{
+    let places = first_places(heap, qubits)?;
+    let ability = Ability::all(64);
+    let layout = Layout {
+        chip,
+        qubits,
+        places: &places,
+        gates,
+    };
+    match Book::lay(&ability, layout) {
+        Ok(book) => judge(heap, book, input),
+        Err(fault) => Ok(refused(heap, fault)?),
     }
 }
 
-/// The reply to an input, on the chip of so many wires that the records give: the line of the refusal of its circuit's text
+// The reply to an input whose circuit is read into these rows.
+fn reply_with(
+    heap: Global,
+    chip: ChipRecords,
+    input: &[u8],
+    rows: &mut [GateRow],
+) -> Result<String, CheckError>
+    requires { length rows.old ≡ 1024 }
+    ensures { Replies chip.entry.wires chip.entry.bytes.now input.now result }
+{
+    match read(circuit_part(input), rows) {
+        Ok(Circuit { qubits, gates }) => {
+            lay_and_judge(heap, chip, input, qubits, &rows[..gates])
+        }
+        Err(fault) => Ok(refused(heap, fault)?),
+    }
+}
+
+/// The reply to an input, on a chip as it is written: the line of the refusal of its circuit's text
 /// or of the layout; the number of the first unreadable step line, as an error; or the answers to the steps, and what is counted.
-pub fn reply(heap: Global, wires: u8, records: &[u8], input: &[u8]) -> Result<String, CheckError>
-    ensures { Replies wires records.now input.now result }
+pub fn reply(heap: Global, chip: ChipRecords, input: &[u8]) -> Result<String, CheckError>
+    ensures { Replies chip.entry.wires chip.entry.bytes.now input.now result }
 {
     let mut rows = [GateRow {
         kind: 0,
@@ -86,10 +96,5 @@ pub fn reply(heap: Global, wires: u8, records: &[u8], input: &[u8]) -> Result<St
         second: Logical(0),
         k: 0,
     }; 1024];
-    let case = Case {
-        wires,
-        records,
-        input,
-    };
-    case.reply(heap, &mut rows)
+    reply_with(heap, chip, input, &mut rows)
 }

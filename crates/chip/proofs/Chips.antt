@@ -1,15 +1,20 @@
 -- What holds of every chip, for the crates above, and that `Chip::new` has one answer.
-use Rattle.std.proofs.Common.{◌≡◌, ℕ, zero, suc, ◌+◌, ◌<◌, ◌≤◌, true, false, ◌⊎◌, List, IfOk, Ok, Err, Result, sym, ◌∙◌, subst, inl, inr, ⊎_elim, arith}
+use Rattle.std.proofs.Common.{◌≡◌, ℕ, zero, suc, ◌+◌, ◌<◌, ◌≤◌, true, false, ◌⊎◌, List, IfOk, Ok, Err, Result, Some, None, Option, MatchOption, sym, ◌∙◌, subst, inl, inr, ⊎_elim, arith}
 use mathlib.Core.HLevel.{⊥_prop}
 use mathlib.Core.Logic.{∥∥₁_elim}
 use Rattle.std.proofs.lemmas.Bool.{cases_eq, cases_lt, cases_Bool, both_ways}
+use Rattle.std.specs.Option.{option_map}
+use Rattle.rows.specs.declared.place.Wire.{Wire}
 use Rattle.rows.specs.declared.refusal.Fault.{Fault}
 use Rattle.rows.proofs.OneRefusal.{turned_same}
 use Rattle.chip.specs.declared.chip.Chip.{Chip}
-use Rattle.chip.specs.Charts.{Chart, Walk, Distance, OnChip, OneNearer, ChipFits, Inside, GoodChart}
+use Rattle.chip.specs.Charts.{Chart, Walk, Distance, OnChip, OneNearer, Lowest, ChipFits, Inside, GoodChart}
 use Rattle.chip.specs.Tables.{flag_at, number_at}
 use Rattle.chip.specs.Chips.{chart_of, ChipAnswer, SameAnswer}
 use Rattle.chip.proofs.Walks.{unsnoc}
+
+abbrev pub wire : ℕ → Wire
+wire w = record { 0 = w }
 
 -- a number below n with a property that is decided, or none
 pub find_below : (n : ℕ) (P : ℕ → Type 0) → ((m : ℕ) → P m ⊎ ¬ P m) → ((m : ℕ) × (m < n) × P m) ⊎ ((m : ℕ) → m < n → ¬ P m)
@@ -93,7 +98,7 @@ off_chip c inside a b off (suc d) l r =
 
 module _ (c : Chip) (a b : ℕ) (la : a < c.wires) (lb : b < c.wires) (here : ℕ) (is : Distance (chart_of c) a b here) where
   -- a neighbour that is one nearer, by the table
-  pub table_nearer : (w : ℕ) → flag_at c.couplings a w ≡ true → number_at c.distances w b + 1 ≡ here → OneNearer (chart_of c) a b w
+  pub table_nearer : (w : ℕ) → flag_at c.couplings.rows a w ≡ true → number_at c.distances w b + 1 ≡ here → OneNearer (chart_of c) a b w
   table_nearer w j e = record {
     neighbour = j;
     left = number_at c.distances w b;
@@ -101,14 +106,14 @@ module _ (c : Chip) (a b : ℕ) (la : a < c.wires) (lb : b < c.wires) (here : �
     here = subst (λ (d : ℕ). Distance (chart_of c) a b d) (sym e) is;
   }
 
-  pub nearer_table : (w : ℕ) → OneNearer (chart_of c) a b w → (flag_at c.couplings a w ≡ true) × (number_at c.distances w b + 1 ≡ here)
+  pub nearer_table : (w : ℕ) → OneNearer (chart_of c) a b w → (flag_at c.couplings.rows a w ≡ true) × (number_at c.distances w b + 1 ≡ here)
   nearer_table w n =
       let s : number_at c.distances w b ≡ n.left = distance_same (chart_of c) w b (number_at c.distances w b) n.left (chip_distance c w b (c.inside a w n.neighbour).1 lb) n.there in
       let t : n.left + 1 ≡ here = distance_same (chart_of c) a b (n.left + 1) here n.here is in
       (n.neighbour, omega arith)
 
   -- where the distance is above 0 there is one
-  pub some_nearer : ((w : ℕ) → w < c.wires → flag_at c.couplings a w ≡ true → number_at c.distances w b + 1 ≡ here → ⊥) → (d : ℕ) → 0 < d → ¬ Distance (chart_of c) a b d
+  pub some_nearer : ((w : ℕ) → w < c.wires → flag_at c.couplings.rows a w ≡ true → number_at c.distances w b + 1 ≡ here → ⊥) → (d : ℕ) → 0 < d → ¬ Distance (chart_of c) a b d
   some_nearer none zero l r = omega arith
   some_nearer none (suc d) l r =
       let w = r.walk in
@@ -119,3 +124,17 @@ module _ (c : Chip) (a b : ℕ) (la : a < c.wires) (lb : b < c.wires) (here : �
       let y : here ≤ suc (number_at c.distances m b) = is.shortest (suc (number_at c.distances m b)) (m, w.1, far.walk) in
       let z : suc d ≤ here = r.shortest here is.walk in
       none m i.1 w.1 (omega arith)
+
+  -- the first neighbour that is one nearer, by the table
+  pub nearest : (r : Option ℕ) → MatchOption r
+      ((k : ℕ) → 0 ≤ k → k < c.wires → flag_at c.couplings.rows a k ≡ true → number_at c.distances k b + 1 ≡ here → ⊥)
+      (λ i. (0 ≤ i) × (i < c.wires) × ((flag_at c.couplings.rows a i ≡ true) × (number_at c.distances i b + 1 ≡ here))
+      × ((k : ℕ) → 0 ≤ k → k < i → flag_at c.couplings.rows a k ≡ true → number_at c.distances k b + 1 ≡ here → ⊥))
+      → MatchOption (option_map wire r)
+      ((d : ℕ) → 0 < d → ¬ Distance (chart_of c) a b d)
+      (λ w. Lowest (OneNearer (chart_of c) a b) w.0)
+  nearest None none = some_nearer (λ w l. none w (omega arith) l)
+  nearest (Some i) (z, l, here', before) = record {
+    holds = table_nearer i here'.0 here'.1;
+    none_lower = λ v m n. let t = nearer_table v n in before v (omega arith) m t.0 t.1;
+  }

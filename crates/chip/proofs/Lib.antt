@@ -6,3 +6,4 @@ pub mod Making
 pub mod Chips
 pub mod Worked
 pub mod Settled
+pub mod Filled

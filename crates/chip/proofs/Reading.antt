@@ -1,11 +1,13 @@
 -- One record more in the tables.
-use Rattle.std.proofs.Common.{◌≡◌, ℕ, zero, suc, ◌+◌, ◌*◌, ◌/◌, ◌<◌, ◌≤◌, Bool, true, false, cond, ◌&&◌, ◌||◌, eqb, ◌⊎◌, List, [], ◌∷◌, ◌++◌, length, get_or, take, set, replicate, sym, refl, ap, ◌∙◌, subst, inl, inr, ⊎_elim, arith}
+use Rattle.std.proofs.Common.{◌≡◌, ℕ, zero, suc, ◌+◌, ◌/◌, ◌<◌, ◌≤◌, Bool, true, false, cond, ◌&&◌, ◌||◌, eqb, ◌⊎◌, List, [], ◌∷◌, ◌++◌, length, get_or, take, set, replicate, Some, None, Option, is_some, sym, refl, ap, ◌∙◌, subst, inl, inr, ⊎_elim, arith}
 use Rattle.std.proofs.lemmas.List.{get_or-set_same, get_or-set_other, take_more}
-use Rattle.std.proofs.lemmas.Bool.{and_parts, cases_eq, cases_lt, cases_Bool, eq-eqb, ne_eqb, both_ways, cond-true, cond-false}
+use Rattle.std.proofs.lemmas.Bool.{and_parts, cases_eq, cases_lt, cases_Bool, eq-eqb, ne_eqb, cond-true, cond-false}
 use Rattle.std.proofs.lemmas.Bool.Decides.{nat_tests}
 use Rattle.chip.specs.Charts.{Four, four, records, couples, joins_two, lasts, amount, joins, duration, record_number, GoodRecord}
-use Rattle.chip.specs.Tables.{flag_at, Read}
-use Rattle.chip.proofs.Reaching.{blank_row}
+use Rattle.std.specs.Simd.{first_chunks}
+use Rattle.chip.specs.Tables.{Flags, flag_at, given, Read}
+use Rattle.chip.specs.Entries.{four_in}
+use Rattle.chip.proofs.Reaching.{blank_row, none_value}
 
 -- rows of flags
 or_none : (x : Bool) → (x || false) ≡ x
@@ -20,7 +22,7 @@ or_assoc : (x y z : Bool) → ((x || y) || z) ≡ (x || (y || z))
 or_assoc true y z = refl
 or_assoc false y z = refl
 
-pub row_with : (row : List Bool) (b : ℕ) → b < length row → (y : ℕ) → get_or (set row b true) y false ≡ (get_or row y false || eqb b y)
+row_with : (row : List Bool) (b : ℕ) → b < length row → (y : ℕ) → get_or (set row b true) y false ≡ (get_or row y false || eqb b y)
 row_with row b l y = ⊎_elim
     (λ (e : y ≡ b).
     ap (λ (k : ℕ). get_or (set row b true) k false) e ∙ get_or-set_same row b true false l
@@ -28,7 +30,7 @@ row_with row b l y = ⊎_elim
     (λ ne. get_or-set_other row b y true false ne ∙ sym (ap (λ (t : Bool). get_or row y false || t) (ne_eqb b y (λ e. ne (sym e))) ∙ or_none (get_or row y false)))
     (cases_eq y b)
 
-pub table_with : (t : List (List Bool)) (a b : ℕ) → a < length t → (row : List Bool) → ((y : ℕ) → get_or row y false ≡ (get_or (get_or t a []) y false || eqb b y))
+table_with : (t : List (List Bool)) (a b : ℕ) → a < length t → (row : List Bool) → ((y : ℕ) → get_or row y false ≡ (get_or (get_or t a []) y false || eqb b y))
     → (x y : ℕ) → flag_at (set t a row) x y ≡ (flag_at t x y || (eqb a x && eqb b y))
 table_with t a b l row h x y = ⊎_elim
     (λ (e : x ≡ a).
@@ -38,6 +40,10 @@ table_with t a b l row h x y = ⊎_elim
     ∙ sym (ap (λ (s : Bool). flag_at t x y || (s && eqb b y)) (ne_eqb a x (λ e. ne (sym e))) ∙ or_none (flag_at t x y)))
     (cases_eq x a)
 
+pub flag_set : (t : Flags) (a b : ℕ) → a < length t → b < length (get_or t a [])
+    → (x y : ℕ) → flag_at (set t a (set (get_or t a []) b true)) x y ≡ (flag_at t x y || (eqb a x && eqb b y))
+flag_set t a b l m x y = table_with t a b l (set (get_or t a []) b true) (row_with (get_or t a []) b m) x y
+
 -- record i by its bytes
 pub records_length : (bs : List ℕ) → length (records bs) ≡ length bs / 4
 records_length [] = refl
@@ -46,22 +52,15 @@ records_length (a ∷ b ∷ []) = refl
 records_length (a ∷ b ∷ c ∷ []) = refl
 records_length (a ∷ b ∷ c ∷ d ∷ bs) = let h = records_length bs in omega arith
 
-pub record_bytes : (bs : List ℕ) (i : ℕ) → i < length bs / 4
-    → record_number bs i ≡ four (get_or bs (4 * i) 0) (get_or bs (4 * i + 1) 0) (get_or bs (4 * i + 2) 0) (get_or bs (4 * i + 3) 0)
-record_bytes [] i l = let z : ⊥ = omega arith in absurd z
-record_bytes (a ∷ []) i l = let z : ⊥ = omega arith in absurd z
-record_bytes (a ∷ b ∷ []) i l = let z : ⊥ = omega arith in absurd z
-record_bytes (a ∷ b ∷ c ∷ []) i l = let z : ⊥ = omega arith in absurd z
-record_bytes (a ∷ b ∷ c ∷ d ∷ bs) zero l = refl
-record_bytes (a ∷ b ∷ c ∷ d ∷ bs) (suc i) l =
-    record_bytes bs i (omega arith) ∙ later (4 * i) (4 * suc i) (omega arith)
-  where
-    later : (p q : ℕ) → q ≡ p + 4 → four (get_or bs p 0) (get_or bs (p + 1) 0) (get_or bs (p + 2) 0) (get_or bs (p + 3) 0)
-        ≡ four (get_or (a ∷ b ∷ c ∷ d ∷ bs) q 0) (get_or (a ∷ b ∷ c ∷ d ∷ bs) (q + 1) 0) (get_or (a ∷ b ∷ c ∷ d ∷ bs) (q + 2) 0) (get_or (a ∷ b ∷ c ∷ d ∷ bs) (q + 3) 0)
-    later p q e = λ i. four (past p q e i) (past (p + 1) (q + 1) (omega arith) i) (past (p + 2) (q + 2) (omega arith) i) (past (p + 3) (q + 3) (omega arith) i)
-      where
-        past : (p q : ℕ) → q ≡ p + 4 → get_or bs p 0 ≡ get_or (a ∷ b ∷ c ∷ d ∷ bs) q 0
-        past p q e = sym (ap (λ (k : ℕ). get_or (a ∷ b ∷ c ∷ d ∷ bs) k 0) (let f : q ≡ suc (suc (suc (suc p))) = omega arith in f))
+-- record i is the chunk i of four bytes
+pub record_chunk : (bs : List ℕ) (n i : ℕ) → n ≤ length bs / 4 → i < n → record_number bs i ≡ four_in (get_or (first_chunks 4 n bs) i [])
+record_chunk bs zero i m l = let z : ⊥ = omega arith in absurd z
+record_chunk [] (suc n) i m l = let z : ⊥ = omega arith in absurd z
+record_chunk (a ∷ []) (suc n) i m l = let z : ⊥ = omega arith in absurd z
+record_chunk (a ∷ b ∷ []) (suc n) i m l = let z : ⊥ = omega arith in absurd z
+record_chunk (a ∷ b ∷ c ∷ []) (suc n) i m l = let z : ⊥ = omega arith in absurd z
+record_chunk (a ∷ b ∷ c ∷ d ∷ bs) (suc n) zero m l = refl
+record_chunk (a ∷ b ∷ c ∷ d ∷ bs) (suc n) (suc i) m l = record_chunk bs n i (omega arith) (omega arith)
 
 -- one record more at the end of a list
 pub joins_push : (n : ℕ) (rs : List Four) (r : Four) (a b : ℕ) → joins n (rs ++ r ∷ []) a b ≡ (joins n rs a b || joins_two n r a b)
@@ -76,8 +75,33 @@ duration_push_other (s ∷ rs) r e k = ap (λ (d : ℕ). cond (lasts s && eqb s.
 lasts_some : (r : Four) → lasts r ≡ true → 1 ≤ amount r
 lasts_some r e = grind (arith, nat_tests)
 
-lasts_kind : (r : Four) → lasts r ≡ true → r.second ≤ 12
+pub lasts_kind : (r : Four) → lasts r ≡ true → (1 ≤ r.second) × (r.second ≤ 12)
 lasts_kind r e = grind (arith, nat_tests)
+
+-- no number but those of kinds has a duration
+pub duration_outside : (rs : List Four) (k : ℕ) → (k < 1) ⊎ (12 < k) → duration rs k ≡ 0
+duration_outside [] k o = refl
+duration_outside (r ∷ rs) k o = ⊎_elim
+    (λ (t : (lasts r && eqb r.second k) ≡ true).
+    let p = and_parts _ _ t in
+    let q = lasts_kind r p.0 in
+    let e : r.second ≡ k = grind (arith, nat_tests, p.1) in
+    let z : ⊥ = omega (arith, q, o, e) in absurd z)
+    (λ (t : (lasts r && eqb r.second k) ≡ false). cond-false {A = ℕ} _ (amount r) (duration rs k) t ∙ duration_outside rs k o)
+    (cases_Bool (lasts r && eqb r.second k))
+
+-- a number that is not 0
+pub given_some : (d : ℕ) → 1 ≤ d → given d ≡ Some d
+given_some zero l = let z : ⊥ = omega arith in absurd z
+given_some (suc d) l = refl
+
+pub given_none : (d : ℕ) → given d ≡ None → d ≡ 0
+given_none zero e = refl
+given_none (suc d) e = cc
+
+pub given_value : (d k : ℕ) → given d ≡ Some k → k ≡ d
+given_value zero k e = cc
+given_value (suc d) k e = cc
 
 -- the duration of a kind that has none yet
 pub duration_push_new : (rs : List Four) (r : Four) → lasts r ≡ true → duration rs r.second ≡ 0
@@ -118,12 +142,12 @@ no_join n r a b e = ap (λ (t : Bool). t && ((eqb r.second a && eqb r.third b) |
 at_most : (j m : ℕ) → j < m + 1 → (j < m) ⊎ (j ≡ m)
 at_most j m h = ⊎_elim (λ (l : j < m). inl l) (λ (g : m ≤ j). inr (omega arith)) (cases_lt j m)
 
-module _ (n : ℕ) (bs : List ℕ) (m : ℕ) (cs : List (List Bool)) (ds : List ℕ) (so_far : Read n bs m cs ds) (lt : m < length bs / 4) where
+module _ (n : ℕ) (bs : List ℕ) (m : ℕ) (cs : List (List Bool)) (ds : List (Option ℕ)) (so_far : Read n bs m cs ds) (lt : m < length (records bs)) where
   abbrev here : Four
   here = record_number bs m
 
   next : take (m + 1) (records bs) ≡ take m (records bs) ++ here ∷ []
-  next = take_more (records bs) m (four 0 0 0 0) (omega (arith, records_length bs))
+  next = take_more (records bs) m (four 0 0 0 0) lt
 
   good_next : GoodRecord n bs m → (i : ℕ) → i < m + 1 → GoodRecord n bs i
   good_next g i h = ⊎_elim
@@ -146,7 +170,7 @@ module _ (n : ℕ) (bs : List ℕ) (m : ℕ) (cs : List (List Bool)) (ds : List 
         ∙ ap (λ (t : Bool). joins n (take m (records bs)) x y || (t && way)) c);
     lasting = λ k.
         so_far.lasting k
-        ∙ sym (ap (λ (rs : List Four). duration rs k) next ∙ duration_push_other (take m (records bs)) here (one_form n here c) k);
+        ∙ ap given (sym (ap (λ (rs : List Four). duration rs k) next ∙ duration_push_other (take m (records bs)) here (one_form n here c) k));
   }
 
   -- a duration
@@ -154,57 +178,35 @@ module _ (n : ℕ) (bs : List ℕ) (m : ℕ) (cs : List (List Bool)) (ds : List 
     no_couple : couples n here ≡ false
     no_couple = grind (arith, nat_tests)
 
-    read_own : here.second < length ds → get_or ds here.second 0 ≡ 0 → Read n bs (m + 1) cs (set ds here.second (amount here))
+    read_own : here.second < length ds → get_or ds here.second None ≡ None → Read n bs (m + 1) cs (set ds here.second (Some (amount here)))
     read_own len free =
-        let z : duration (take m (records bs)) here.second ≡ 0 = sym (so_far.lasting here.second) ∙ free in
+        let z : duration (take m (records bs)) here.second ≡ 0 = given_none _ (sym (so_far.lasting here.second) ∙ free) in
         record {
           good = good_next (inr (l, z));
           coupled = λ x y.
               so_far.coupled x y
               ∙ sym (ap (λ (rs : List Four). joins n rs x y) next ∙ joins_push n (take m (records bs)) here x y
               ∙ ap (λ (t : Bool). joins n (take m (records bs)) x y || t) (no_join n here x y no_couple) ∙ or_none (joins n (take m (records bs)) x y));
-          lasting = λ k.
-              written k ∙ ap (λ (d : ℕ). cond (eqb here.second k) (amount here) d) (so_far.lasting k)
-              ∙ sym (ap (λ (rs : List Four). duration rs k) next ∙ duration_push_new (take m (records bs)) here l z k);
+          lasting = λ k. written k ∙ ap given (sym (ap (λ (rs : List Four). duration rs k) next ∙ duration_push_new (take m (records bs)) here l z k));
         }
       where
-        written : (k : ℕ) → get_or (set ds here.second (amount here)) k 0 ≡ cond (eqb here.second k) (amount here) (get_or ds k 0)
+        written : (k : ℕ) → get_or (set ds here.second (Some (amount here))) k None ≡ given (cond (eqb here.second k) (amount here) (duration (take m (records bs)) k))
         written k = ⊎_elim
             (λ (e : k ≡ here.second).
-            ap (λ (j : ℕ). get_or (set ds here.second (amount here)) j 0) e ∙ get_or-set_same ds here.second (amount here) 0 len
-            ∙ sym (cond-true {A = ℕ} _ (amount here) (get_or ds k 0) (eq-eqb _ _ (sym e))))
-            (λ ne. get_or-set_other ds here.second k (amount here) 0 ne ∙ sym (cond-false {A = ℕ} _ (amount here) (get_or ds k 0) (ne_eqb _ _ (λ e. ne (sym e)))))
+            ap (λ (j : ℕ). get_or (set ds here.second (Some (amount here))) j None) e ∙ get_or-set_same ds here.second (Some (amount here)) None len
+            ∙ sym (ap given (cond-true {A = ℕ} _ (amount here) (duration (take m (records bs)) k) (eq-eqb _ _ (sym e))) ∙ given_some (amount here) (lasts_some here l)))
+            (λ ne. get_or-set_other ds here.second k (Some (amount here)) None ne ∙ so_far.lasting k
+            ∙ sym (ap given (cond-false {A = ℕ} _ (amount here) (duration (take m (records bs)) k) (ne_eqb _ _ (λ e. ne (sym e))))))
             (cases_eq k here.second)
 
-    pub read_duration : (k d : ℕ) → here.second ≡ k → amount here ≡ d → length ds ≡ 13 → get_or ds k 0 ≡ 0 → Read n bs (m + 1) cs (set ds k d)
+    pub read_duration : (k d : ℕ) → here.second ≡ k → amount here ≡ d → length ds ≡ 13 → is_some (get_or ds k None) ≡ false → Read n bs (m + 1) cs (set ds k (Some d))
     read_duration k d ek ed len free =
-        subst (λ (x : ℕ). Read n bs (m + 1) cs (set ds x d)) ek
-        (subst (λ (x : ℕ). Read n bs (m + 1) cs (set ds here.second x)) ed
-        (read_own (omega (arith, lasts_kind here l)) (ap (λ (x : ℕ). get_or ds x 0) ek ∙ free)))
-
-    -- a second duration of a kind
-    pub twice_bad : (k : ℕ) → here.second ≡ k → (get_or ds k 0 ≡ 0 → ⊥) → GoodRecord n bs m → ⊥
-    twice_bad k ek full g = ⊎_elim
-        (λ (c : couples n here ≡ true). both_ways (couples n here) no_couple c)
-        (λ (q : (lasts here ≡ true) × (duration (take m (records bs)) here.second ≡ 0)). full (ap (λ (x : ℕ). get_or ds x 0) (sym ek) ∙ (so_far.lasting here.second ∙ q.1)))
-        g
-
--- a record of neither form
-pub neither_bad : (n : ℕ) (bs : List ℕ) (m : ℕ) → couples n (record_number bs m) ≡ false → lasts (record_number bs m) ≡ false → GoodRecord n bs m → ⊥
-neither_bad n bs m p q g = ⊎_elim
-    (λ (c : couples n (record_number bs m) ≡ true). both_ways _ p c)
-    (λ (l : (lasts (record_number bs m) ≡ true) × (duration (take m (records bs)) (record_number bs m).second ≡ 0)). both_ways _ q l.0)
-    g
+        subst (λ (x : ℕ). Read n bs (m + 1) cs (set ds x (Some d))) ek
+        (subst (λ (x : ℕ). Read n bs (m + 1) cs (set ds here.second (Some x))) ed
+        (read_own (omega (arith, lasts_kind here l)) (ap (λ (x : ℕ). get_or ds x None) ek ∙ none_value (get_or ds k None) free)))
 
 -- before the first record
 pub blank_table : (n m a b : ℕ) → flag_at (replicate n (replicate m false)) a b ≡ false
 blank_table zero m a b = refl
 blank_table (suc n) m zero b = blank_row m b false
 blank_table (suc n) m (suc a) b = blank_table n m a b
-
-pub read_none : (n : ℕ) (bs : List ℕ) → Read n bs 0 (replicate 64 (replicate 64 false)) (replicate 13 0)
-read_none n bs = record {
-  good = λ i h. let f : ⊥ = omega arith in absurd f;
-  coupled = λ a b. blank_table 64 64 a b;
-  lasting = λ k. blank_row {A = ℕ} 13 k 0;
-}

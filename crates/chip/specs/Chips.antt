@@ -9,7 +9,7 @@ use Rattle.chip.specs.Tables.{chart_at}
 
 -- the chart that a chip holds
 abbrev pub chart_of : Chip → Chart
-chart_of c = chart_at c.wires c.couplings c.durations
+chart_of c = chart_at c.wires c.couplings.rows c.durations
 
 -- a chip if no condition of refusal holds, and it holds the chart of the records; else the refusal to be answered
 abbrev pub ChipAnswer : ℕ → List ℕ → Result Chip Fault → Type 0

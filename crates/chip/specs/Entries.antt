@@ -1,10 +1,17 @@
 -- What the reader takes from a record. Nothing outside this crate cites this.
-use Rattle.std.specs.Prelude.{◌≡◌, ℕ, true, false}
+use Rattle.std.specs.Prelude.{◌≡◌, ℕ, true, false, List, slice_index}
 use Rattle.chip.specs.declared.records.Entry.{Entry}
-use Rattle.chip.specs.Charts.{Four, couples, lasts, amount}
+use Rattle.chip.specs.Charts.{Four, four, couples, lasts, amount}
+
+-- the record that four bytes hold
+abbrev pub four_in : List ℕ → Four
+four_in bs = four (slice_index bs 0) (slice_index bs 1) (slice_index bs 2) (slice_index bs 3)
 
 -- an entry is what the record gives
 abbrev pub Gives : ℕ → Four → Entry → Type 0
 Gives n r (Entry.Coupling a b) = (couples n r ≡ true) × (r.second ≡ a.0) × (r.third ≡ b.0)
 Gives n r (Entry.Duration k d) = (lasts r ≡ true) × (r.second ≡ k) × (amount r ≡ d)
-Gives n r Entry.Neither = (couples n r ≡ false) × (lasts r ≡ false)
+
+-- the record gives neither
+abbrev pub GivesNone : ℕ → Four → Type 0
+GivesNone n r = (couples n r ≡ false) × (lasts r ≡ false)

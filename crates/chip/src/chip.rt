@@ -6,20 +6,22 @@ ghost use Rattle.chip.specs.Tables.{chart_at, number_at};
 mod access;
 mod make;
 
+use crate::couplings::Couplings;
+
 /// A chip of 1 to 64 wires, of which every two are joined by couplings.
 #[derive(Clone, Copy)]
 pub struct Chip {
     wires: u8,
-    couplings: [[bool; 64]; 64],
+    couplings: Couplings,
     /// The cycles of a kind at its code, the exchange's at 12; no kind has code 0.
     durations: [u16; 13],
     distances: [[u8; 64]; 64],
     ghost some: { 1 ≤ wires },
     ghost few: { wires ≤ 64 },
-    ghost inside: { Inside (chart_at wires couplings durations) },
-    ghost symmetric: { Symmetric (chart_at wires couplings durations) },
-    ghost irreflexive: { Irreflexive (chart_at wires couplings durations) },
+    ghost inside: { Inside (chart_at wires couplings.rows durations) },
+    ghost symmetric: { Symmetric (chart_at wires couplings.rows durations) },
+    ghost irreflexive: { Irreflexive (chart_at wires couplings.rows durations) },
     ghost timed: { ((k : ℕ) → (1 ≤ k) × (k ≤ 12) → (1 ≤ slice_index durations k) × (slice_index durations k ≤ 4095)) },
-    ghost distant: { ((a b : ℕ) → (a < wires) × (b < wires) → ∥ Distance (chart_at wires couplings durations) a b (number_at distances a b) ∥₁) },
+    ghost distant: { ((a b : ℕ) → (a < wires) × (b < wires) → ∥ Distance (chart_at wires couplings.rows durations) a b (number_at distances a b) ∥₁) },
     ghost near: { ((a b : ℕ) → (a < wires) × (b < wires) → number_at distances a b < 64) },
 }

@@ -3,7 +3,9 @@
 #![tactic(auto)]
 
 mod chip;
+mod couplings;
 mod reach;
 mod records;
 
 pub use chip::Chip;
+pub use records::ChipRecords;

@@ -1,113 +1,128 @@
 // Shortest distances along couplings, found breadth first.
-ghost use Rattle.std.specs.Prelude.{◌≡◌, ℕ, ◌+◌, ◌<◌, ◌≤◌, Bool, true, List, [], length, MatchBool, slice_index, slice_index_or};
+ghost use Rattle.std.specs.Prelude.{◌≡◌, ℕ, ◌+◌, ◌<◌, ◌≤◌, true, false, List, [], length, None, is_some, MatchBool, MatchOption, slice_index, slice_index_or};
 ghost use Rattle.chip.specs.Charts.{Inside};
-ghost use Rattle.chip.specs.Tables.{flag_at, links, Found, size, Level, Grown, Distances, AllReached};
+ghost use Rattle.chip.specs.Tables.{Flags, flag_at, links, Found, IsFound, size, Level, Grown, Distances, AllReached};
 
-/// The wires found so far, and by how many couplings each was reached.
+use crate::couplings::Couplings;
+
+/// For each wire the number of couplings by which it was reached; none where it is not found.
 #[derive(Clone, Copy)]
 pub(crate) struct Reach {
-    pub found: [bool; 64],
-    pub steps: [u8; 64],
+    pub steps: [Option<u8>; 64],
 }
 
 impl Reach {
     /// Wire `a` alone is found.
     fn start(a: usize) -> Reach
         requires wire { a < 64 }
-        ensures level { (table : List (List Bool)) → Level table a 0 result.found result.steps }
-        ensures one { 0 < size result.found }
-        ensures whole { length result.found ≡ 64 }
+        ensures level { (table : Flags) → Level table a 0 result.steps }
+        ensures one { 0 < size result.steps }
+        ensures whole { length result.steps ≡ 64 }
     {
-        let mut found = [false; 64];
-        found[a] = true;
-        let steps = [0; 64];
-        Reach { found, steps }
+        let mut steps = [None; 64];
+        steps[a] = Some(0);
+        Reach { steps }
     }
 
-    /// Finds wire `v` by its coupling with wire `u`, if it is coupled and not found yet.
-    fn visit(&mut self, table: &[[bool; 64]; 64], u: usize, v: usize, d: u8) -> bool
+    /// Finds wire `v` by its coupling with wire `u`, `d` couplings away, if it is coupled and not found yet.
+    fn visit(&mut self, couplings: &Couplings, u: usize, v: usize, d: u8) -> bool
         requires wires { (u < 64) × (v < 64) }
         requires level { d < 64 }
-        requires from { (Found self.old.found u) × (slice_index self.old.steps u ≡ d) }
-        ensures grown { Grown table.now d self.old.found self.old.steps self.new.found self.new.steps }
-        ensures covered { flag_at table.now u v ≡ true → Found self.new.found v }
-        ensures changed { MatchBool result (size self.old.found < size self.new.found) (self.new.found ≡ self.old.found) }
+        requires from { Found self.old.steps u d }
+        ensures grown { Grown couplings.now.rows d self.old.steps self.new.steps }
+        ensures covered { flag_at couplings.now.rows u v ≡ true → IsFound self.new.steps v }
+        ensures changed { MatchBool result (size self.old.steps < size self.new.steps) (self.new.steps ≡ self.old.steps) }
     {
-        if !table[u][v] {
+        if !couplings.rows[u][v] || self.steps[v].is_some() {
             return false;
         }
-        if self.found[v] {
-            return false;
-        }
-        self.found[v] = true;
-        self.steps[v] = d + 1;
+        self.steps[v] = Some(d + 1);
         true
     }
 
     /// Finds the neighbours of wire `u`, if it is `d` couplings away. Answers whether one was new.
-    fn expand(&mut self, table: &[[bool; 64]; 64], u: usize, d: u8) -> bool
+    fn expand(&mut self, couplings: &Couplings, u: usize, d: u8) -> bool
         requires wire { u < 64 }
         requires level { d < 64 }
-        ensures grown { Grown table.now d self.old.found self.old.steps self.new.found self.new.steps }
-        ensures covered { Found self.old.found u → slice_index self.old.steps u ≡ d → (v : ℕ) → v < 64 → flag_at table.now u v ≡ true → Found self.new.found v }
-        ensures changed { MatchBool result (size self.old.found < size self.new.found) (self.new.found ≡ self.old.found) }
+        ensures grown { Grown couplings.now.rows d self.old.steps self.new.steps }
+        ensures covered { Found self.old.steps u d → (v : ℕ) → v < 64 → flag_at couplings.now.rows u v ≡ true → IsFound self.new.steps v }
+        ensures changed { MatchBool result (size self.old.steps < size self.new.steps) (self.new.steps ≡ self.old.steps) }
     {
-        if !self.found[u] {
+        if self.steps[u] != Some(d) {
             return false;
         }
-        if self.steps[u] != d {
-            return false;
-        }
+        // A loop over the wires, not `any`: every neighbour is visited, and the closure would change what it captures.
         let mut changed = false;
         for v in 0..64 {
-            if self.visit(table, u, v, d) {
-                changed = true;
-            }
+            changed |= self.visit(couplings, u, v, d);
         }
         changed
     }
 
     /// Finds the neighbours of each wire that is `d` couplings away. Answers whether one was new.
-    fn round(&mut self, table: &[[bool; 64]; 64], d: u8) -> bool
+    fn round(&mut self, couplings: &Couplings, d: u8) -> bool
         requires level { d < 64 }
-        ensures grown { Grown table.now d self.old.found self.old.steps self.new.found self.new.steps }
-        ensures covered { (u v : ℕ) → u < 64 → v < 64 → Found self.old.found u → slice_index self.old.steps u ≡ d → flag_at table.now u v ≡ true → Found self.new.found v }
-        ensures changed { MatchBool result (size self.old.found < size self.new.found) (self.new.found ≡ self.old.found) }
+        ensures grown { Grown couplings.now.rows d self.old.steps self.new.steps }
+        ensures covered { (u v : ℕ) → u < 64 → v < 64 → Found self.old.steps u d → flag_at couplings.now.rows u v ≡ true → IsFound self.new.steps v }
+        ensures changed { MatchBool result (size self.old.steps < size self.new.steps) (self.new.steps ≡ self.old.steps) }
     {
+        // A loop over the wires, as in `expand`.
         let mut changed = false;
         for u in 0..64 {
-            if self.expand(table, u, d) {
-                changed = true;
-            }
+            changed |= self.expand(couplings, u, d);
         }
         changed
     }
-}
 
-/// The wires that wire `a` reaches, with their distances.
-pub(crate) fn reach_from(table: &[[bool; 64]; 64], a: usize) -> Reach
-    requires wire { a < 64 }
-    requires inside { Inside (links table.now) }
-    ensures { AllReached table.now a result.found result.steps }
-{
-    let mut reach = Reach::start(a);
-    let mut d = 0;
-    while reach.round(table, d) {
-        d += 1;
+    /// The wires that wire `a` reaches, with their distances.
+    pub fn from(couplings: &Couplings, a: usize) -> Reach
+        requires wire { a < 64 }
+        requires inside { Inside (links couplings.now.rows) }
+        ensures { AllReached couplings.now.rows a result.steps }
+    {
+        let mut reach = Reach::start(a);
+        for d in 0..64 {
+            if !reach.round(couplings, d) {
+                break;
+            }
+        }
+        reach
     }
-    reach
+
+    /// The lowest of `n` wires that is not found.
+    pub fn missing(&self, n: usize) -> Option<usize>
+        requires { n ≤ 64 }
+        ensures { MatchOption result
+            ((w : ℕ) → w < n → IsFound self.now.steps w)
+            (λ w. (w < n) × (slice_index_or self.now.steps w None ≡ None) × ((v : ℕ) → v < w → IsFound self.now.steps v)) }
+    {
+        self.steps[..n].iter().position(|steps| steps.is_none())
+    }
+
+    /// The number of couplings of each wire, 0 where it is not found.
+    fn row(&self) -> [u8; 64]
+        ensures { (v d : ℕ) → Found self.now.steps v d → slice_index result v ≡ d }
+    {
+        std::array::from_fn(|v| self.steps[v].unwrap_or(0))
+    }
 }
 
 /// The distances from each of the first `n` wires.
-pub(crate) fn distances(table: &[[bool; 64]; 64], n: usize) -> [[u8; 64]; 64]
+pub(crate) fn distances(couplings: &Couplings, n: usize) -> [[u8; 64]; 64]
     requires wires { n ≤ 64 }
-    requires inside { Inside (links table.now) }
-    ensures { (a : ℕ) → a < n → Distances table.now a (slice_index_or result a []) }
+    requires inside { Inside (links couplings.now.rows) }
+    ensures { (a : ℕ) → a < n → Distances couplings.now.rows a (slice_index_or result a []) }
 {
-    let mut rows = [[0; 64]; 64];
-    for a in 0..n {
-        let row = reach_from(table, a).steps;
-        rows[a] = row;
-    }
-    rows
+    std::array::from_fn(
+        |a: usize| -> [u8; 64]
+            requires { Inside (links couplings.now.rows) × (n ≤ 64) }
+            ensures { a < n → Distances couplings.entry.now.rows a result }
+        {
+            if a < n {
+                Reach::from(couplings, a).row()
+            } else {
+                [0; 64]
+            }
+        },
+    )
 }

@@ -1,6 +1,6 @@
 // The tests: each goes through a table, or through what a loop makes.
 use crate::tables::{CASES, Case, MAPS, Map, TIMES};
-use chip::Chip;
+use chip::{Chip, ChipRecords};
 use rows::{Kind, Wire};
 use std::alloc::{AllocError, Global};
 use std::process::Abort;
@@ -17,8 +17,8 @@ fn bytes_of(heap: Global, timed: bool, rest: &[u8]) -> Result<Vec<u8>, AllocErro
 }
 
 /// The number and the place of the refusal; 0 and 0 for a chip.
-fn answer(wires: u8, records: &[u8]) -> (u8, usize) {
-    match Chip::new(wires, records) {
+fn answer(records: ChipRecords) -> (u8, usize) {
+    match Chip::new(records) {
         Ok(_) => (0, 0),
         Err(fault) => (fault.number(), fault.place),
     }
@@ -26,7 +26,10 @@ fn answer(wires: u8, records: &[u8]) -> (u8, usize) {
 
 fn check_case(rt: &impl Abort, heap: Global, case: &Case) -> Result<(), Fail> {
     let bytes = bytes_of(heap, case.timed, case.records)?;
-    let (number, place) = answer(case.wires, &bytes);
+    let (number, place) = answer(ChipRecords {
+        wires: case.wires,
+        bytes: &bytes,
+    });
     assert_eq!(rt; number, case.number);
     assert_eq!(rt; place, case.place);
     Ok(())
@@ -55,7 +58,10 @@ fn without(heap: Global, missing: u8) -> Result<Vec<u8>, AllocError> {
 fn each_kind_missing(rt: HostRuntime) -> Result<(), Fail> {
     for kind in 1..13 {
         let bytes = without(rt.alloc(), kind)?;
-        let (number, place) = answer(1, &bytes);
+        let (number, place) = answer(ChipRecords {
+            wires: 1,
+            bytes: &bytes,
+        });
         assert_eq!(rt; number, 9);
         assert_eq!(rt; place, kind as usize);
     }
@@ -65,9 +71,9 @@ fn each_kind_missing(rt: HostRuntime) -> Result<(), Fail> {
 /// The records of a map: `TIMES`, and its couplings.
 fn map_bytes(heap: Global, couplings: &[u8]) -> Result<Vec<u8>, AllocError> {
     let mut bytes = bytes_of(heap, true, b"")?;
-    for i in 0..couplings.len() / 2 {
-        let a = couplings[2 * i].wrapping_sub(b'A');
-        let b = couplings[2 * i + 1].wrapping_sub(b'A');
+    for [a, b] in couplings.as_chunks::<2>().0 {
+        let a = a.wrapping_sub(b'A');
+        let b = b.wrapping_sub(b'A');
         bytes.extend_from_slice(&[1, a, b, 0])?;
     }
     Ok(bytes)
@@ -75,18 +81,12 @@ fn map_bytes(heap: Global, couplings: &[u8]) -> Result<Vec<u8>, AllocError> {
 
 /// The distance as the table writes it; `-` for none.
 fn digit(distance: Option<u8>) -> u8 {
-    match distance {
-        Some(d) => d.wrapping_add(b'0'),
-        None => b'-',
-    }
+    distance.map_or(b'-', |d| d.wrapping_add(b'0'))
 }
 
 /// The wire as the table writes it.
 fn letter(wire: Option<Wire>) -> u8 {
-    match wire {
-        Some(w) => w.0.wrapping_add(b'A'),
-        None => b'.',
-    }
+    wire.map_or(b'.', |w| w.0.wrapping_add(b'A'))
 }
 
 /// The distances from wire `a`, and its neighbours one nearer, as the tables write them.
@@ -118,7 +118,10 @@ fn same_tables(rt: &impl Abort, heap: Global, chip: &Chip, map: &Map) -> Result<
 fn maps(rt: HostRuntime) -> Result<(), Fail> {
     for map in MAPS.iter() {
         let bytes = map_bytes(rt.alloc(), map.couplings)?;
-        let chip = Chip::new(map.wires, &bytes)?;
+        let chip = Chip::new(ChipRecords {
+            wires: map.wires,
+            bytes: &bytes,
+        })?;
         assert_eq!(rt; chip.wires(), map.wires);
         same_tables(&rt, rt.alloc(), &chip, map)?;
     }
@@ -132,7 +135,10 @@ fn long_line(rt: HostRuntime) -> Result<(), Fail> {
     for i in 0..63 {
         bytes.extend_from_slice(&[1, i, i + 1, 0])?;
     }
-    let chip = Chip::new(64, &bytes)?;
+    let chip = Chip::new(ChipRecords {
+        wires: 64,
+        bytes: &bytes,
+    })?;
     assert_eq!(rt; chip.distance(Wire(0), Wire(63)), Some(63));
     assert_eq!(rt; chip.distance(Wire(63), Wire(0)), Some(63));
     assert_eq!(rt; chip.distance(Wire(40), Wire(9)), Some(31));
@@ -146,12 +152,22 @@ fn long_line(rt: HostRuntime) -> Result<(), Fail> {
 fn low_byte_first(rt: HostRuntime) -> Result<(), Fail> {
     let mut bytes = without(rt.alloc(), 1)?;
     bytes.extend_from_slice(&[2, 1, 1, 2])?;
-    let chip = Chip::new(1, &bytes)?;
+    let chip = Chip::new(ChipRecords {
+        wires: 1,
+        bytes: &bytes,
+    })?;
     assert_eq!(rt; chip.duration(Kind::X), 513);
     assert_eq!(rt; chip.duration(Kind::Crk), 1);
     let mut most = without(rt.alloc(), 12)?;
     most.extend_from_slice(&[2, 12, 255, 15])?;
-    assert_eq!(rt; Chip::new(1, &most)?.exchange_duration(), 4095);
+    assert_eq!(rt;
+        Chip::new(ChipRecords {
+            wires: 1,
+            bytes: &most
+        })?
+        .exchange_duration(),
+        4095
+    );
     Ok(())
 }
 
@@ -159,7 +175,10 @@ fn low_byte_first(rt: HostRuntime) -> Result<(), Fail> {
 #[test]
 fn other_wires(rt: HostRuntime) -> Result<(), Fail> {
     let bytes = map_bytes(rt.alloc(), b"ABACBDCD")?;
-    let chip = Chip::new(4, &bytes)?;
+    let chip = Chip::new(ChipRecords {
+        wires: 4,
+        bytes: &bytes,
+    })?;
     assert!(rt; chip.coupled(Wire(3), Wire(1)) && chip.coupled(Wire(1), Wire(3)));
     assert!(rt; !chip.coupled(Wire(0), Wire(3)) && !chip.coupled(Wire(2), Wire(2)));
     assert!(rt; !chip.coupled(Wire(0), Wire(4)) && !chip.coupled(Wire(255), Wire(255)));

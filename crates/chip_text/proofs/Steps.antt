@@ -1,52 +1,71 @@
 -- One step of the loops.
-use Rattle.std.proofs.Common.{◌≡◌, ℕ, zero, suc, ◌+◌, ◌<◌, ◌≤◌, max, Bool, true, false, cond, ◌⊎◌, List, [], ◌∷◌, ◌++◌, length, get_or, drop, None, codes, Option, sym, ap, ◌∙◌, subst, inl, inr, append_assoc, append-nil, add-zero, add-one, arith}
+use Rattle.std.proofs.Common.{◌≡◌, ℕ, zero, suc, ◌+◌, ◌<◌, ◌≤◌, max, Bool, true, false, cond, ◌⊎◌, List, [], ◌∷◌, ◌++◌, length, get_or, drop, sym, ap, ◌∙◌, subst, inl, inr, append_assoc, add-zero, add-one, zero-add, refl, filter, fold, ◌-◌, arith}
 use Rattle.std.proofs.lemmas.Bool.Decides.{nat_tests}
-use Rattle.rows.specs.declared.kind.Kind.{Kind}
-use Rattle.rows.specs.Kinds.{coded}
 use Rattle.std.proofs.lemmas.Bool.{cases_lt}
 use Rattle.rows.specs.Refusals.{Accepted}
 use Rattle.chip.specs.Charts.{Chart, chart, Distance, ChipFits, GoodChart}
-use Rattle.chip_text.specs.Report.{each, largest, count, kind_name, duration_line, Far, chip_text, Text, Printed}
+use Rattle.std.specs.declared.ops.Range.{Range}
+use Rattle.std.specs.List.{range_with_len}
+use Rattle.chip_text.specs.Within.{within}
+use Rattle.chip_text.specs.Report.{each, largest, count, Far, chip_text, Text, Printed}
 
 -- one part more
 pub each_more : (f : ℕ → List ℕ) (n : ℕ) (start before after : List ℕ) → before ≡ start ++ each n f → after ≡ before ++ f n → after ≡ start ++ each (n + 1) f
 each_more f n start before after p q =
     q ∙ ap (λ (xs : List ℕ). xs ++ f n) p ∙ append_assoc start (each n f) (f n) ∙ ap (λ (m : ℕ). start ++ each m f) (sym (add-one n))
 
--- one part more that is empty
-pub each_skip : (f : ℕ → List ℕ) (n : ℕ) (start before : List ℕ) → before ≡ start ++ each n f → f n ≡ [] → before ≡ start ++ each (n + 1) f
-each_skip f n start before p q = each_more f n start before before p (sym (ap (λ (xs : List ℕ). before ++ xs) q ∙ append-nil before))
+-- the same, where parts are counted from 1
+pub each_up : (f : ℕ → List ℕ) (n : ℕ) (start before after : List ℕ) → 1 ≤ n → before ≡ start ++ each (n - 1) (λ i. f (i + 1)) → after ≡ before ++ f n
+    → after ≡ start ++ each (n + 1 - 1) (λ i. f (i + 1))
+each_up f n start before after l p q =
+    let e : n ≡ n - 1 + 1 = omega arith in
+    let m : n - 1 + 1 ≡ n + 1 - 1 = omega arith in
+    each_more (λ i. f (i + 1)) (n - 1) start before after p (q ∙ ap (λ (k : ℕ). before ++ f k) e)
+    ∙ ap (λ (k : ℕ). start ++ each k (λ i. f (i + 1))) m
 
-pub count_yes : (f : ℕ → Bool) (n k : ℕ) → k ≡ count n f → f n ≡ true → k + 1 ≡ count (n + 1) f
-count_yes f n k p e = ap (λ (m : ℕ). m + 1) p ∙ sym (ap (λ (m : ℕ). count m f) (add-one n) ∙ ap (λ (b : Bool). count n f + cond b 1 0) e)
+abbrev pub range : ℕ → Range ℕ
+range n = record { start = 0; end = n }
 
-pub count_no : (f : ℕ → Bool) (n k : ℕ) → k ≡ count n f → f n ≡ false → k ≡ count (n + 1) f
-count_no f n k p e = p ∙ sym (ap (λ (m : ℕ). count m f) (add-one n) ∙ ap (λ (b : Bool). count n f + cond b 1 0) e ∙ add-zero (count n f))
-
-pub count_le : (f : ℕ → Bool) (n : ℕ) → count n f ≤ n
-count_le f zero = omega arith
-count_le f (suc n) = let h = count_le f n in let k = one (f n) in omega arith
+-- how many of a range pass a test
+count_from : (p : ℕ → Bool) (n a : ℕ) → length (filter p (range_with_len a n)) + count a p ≡ count (a + n) p
+count_from p zero a = zero-add (count a p) ∙ ap (λ (m : ℕ). count m p) (sym (add-zero a))
+count_from p (suc n) a =
+    let h : length (filter p (range_with_len (a + 1) n)) + count (a + 1) p ≡ count (a + 1 + n) p = count_from p n (a + 1) in
+    let e : count (a + 1) p ≡ count a p + cond (p a) 1 0 = ap (λ (m : ℕ). count m p) (add-one a) in
+    let f : count (a + 1 + n) p ≡ count (a + suc n) p = ap (λ (m : ℕ). count m p) (omega arith) in
+    let g : length (cond (p a) (a ∷ filter p (range_with_len (a + 1) n)) (filter p (range_with_len (a + 1) n))) ≡ cond (p a) 1 0 + length (filter p (range_with_len (a + 1) n)) = one (p a) (filter p (range_with_len (a + 1) n)) in
+    omega (arith, g, h, e, f)
   where
-    one : (b : Bool) → cond b 1 0 ≤ 1
-    one true = omega arith
-    one false = omega arith
+    one : (b : Bool) (xs : List ℕ) → length (cond b (a ∷ xs) xs) ≡ cond b 1 0 + length xs
+    one true xs = omega arith
+    one false xs = omega arith
 
-pub largest_more : (f : ℕ → ℕ) (n most d r : ℕ) → r ≡ max most d → most ≡ largest n f → d ≡ f n → r ≡ largest (n + 1) f
-largest_more f n most d r e p q = e ∙ ap (λ (m : ℕ). max m d) p ∙ ap (λ (m : ℕ). max (largest n f) m) q ∙ sym (ap (λ (m : ℕ). largest m f) (add-one n))
+pub count_range : (p : ℕ → Bool) (n : ℕ) → length (filter p (range_with_len 0 n)) ≡ count n p
+count_range p n = let h : length (filter p (range_with_len 0 n)) + 0 ≡ count (0 + n) p = count_from p n 0 in rw (zero-add n) at (sym (add-zero _) ∙ h)
+
+-- the largest over a range
+largest_from : (f : ℕ → ℕ) (n a : ℕ) → fold (λ most k. max most (f k)) (largest a f) (range_with_len a n) ≡ largest (a + n) f
+largest_from f zero a = ap (λ (m : ℕ). largest m f) (sym (add-zero a))
+largest_from f (suc n) a =
+    let e : largest (a + 1) f ≡ max (largest a f) (f a) = ap (λ (m : ℕ). largest m f) (add-one a) in
+    ap (λ (m : ℕ). fold (λ most k. max most (f k)) m (range_with_len (a + 1) n)) (sym e)
+    ∙ largest_from f n (a + 1) ∙ ap (λ (m : ℕ). largest m f) (let g : a + 1 + n ≡ a + suc n = omega arith in g)
+
+pub largest_range : (f : ℕ → ℕ) (n : ℕ) → fold (λ most k. max most (f k)) 0 (range_with_len 0 n) ≡ largest n f
+largest_range f n = largest_from f n 0 ∙ ap (λ (m : ℕ). largest m f) (zero-add n)
+
+pub largest_same : (f g : ℕ → ℕ) (n : ℕ) → ((k : ℕ) → k < n → f k ≡ g k) → largest n f ≡ largest n g
+largest_same f g zero h = refl
+largest_same f g (suc n) h = let p = largest_same f g n (λ k l. h k (omega arith)) in let q = h n (omega arith) in cc
+
+pub within_is : (n : ℕ) (far : ℕ → ℕ → ℕ) (a b : ℕ) → a < n → b < n → within n far a b ≡ far a b
+within_is n far a b l m = grind (arith, nat_tests)
 
 -- the parts of a line, one after the other
 pub line_of : (o₀ o₁ o₂ o₃ a b c : List ℕ) → o₁ ≡ o₀ ++ a → o₂ ≡ o₁ ++ b → o₃ ≡ o₂ ++ c → o₃ ≡ o₀ ++ (a ++ (b ++ c))
 line_of o₀ o₁ o₂ o₃ a b c p q r =
     r ∙ ap (λ (xs : List ℕ). xs ++ c) (q ∙ ap (λ (xs : List ℕ). xs ++ b) p)
     ∙ append_assoc (o₀ ++ a) b c ∙ append_assoc o₀ a (b ++ c)
-
--- of the codes 1 to 12 only 12 is no kind of gate
-pub no_kind : (k : ℕ) → 1 ≤ k → k ≤ 12 → coded k ≡ None → k ≡ 12
-no_kind k l m e = grind (arith, nat_tests)
-
-pub exchange_line : (k n : ℕ) (f : ℕ → ℕ) → 1 ≤ k → k ≤ 12 → coded k ≡ None → n ≡ f 12 → duration_line (codes "swap") n ≡ duration_line (kind_name (coded k)) (f k)
-exchange_line k n f l m e p =
-    ap (λ (o : Option Kind). duration_line (kind_name o) n) (sym e) ∙ ap (λ (d : ℕ). duration_line (kind_name (coded k)) d) (p ∙ ap f (sym (no_kind k l m e)))
 
 -- six parts, one after the other
 pub text_of : (o₀ o₁ o₂ o₃ o₄ o₅ o₆ a b c d e f : List ℕ) → o₀ ≡ [] → o₁ ≡ o₀ ++ a → o₂ ≡ o₁ ++ b → o₃ ≡ o₂ ++ c → o₄ ≡ o₃ ++ d → o₅ ≡ o₄ ++ e → o₆ ≡ o₅ ++ f

@@ -1,7 +1,8 @@
 // Numbers of a chip: degrees and the largest distance.
-ghost use Rattle.std.specs.Prelude.{◌≡◌, ℕ, ◌<◌, max};
+ghost use Rattle.std.specs.Prelude.{◌≡◌, ℕ, ◌<◌};
 ghost use Rattle.chip.specs.Chips.{chart_of};
 ghost use Rattle.chip_text.specs.Report.{largest, Far, degree as degree_of, diameter as diameter_of};
+ghost use Rattle.chip_text.specs.Within.{within, longest};
 
 use chip::Chip;
 use rows::Wire;
@@ -10,50 +11,28 @@ use rows::Wire;
 pub(crate) fn degree(chip: &Chip, a: u8) -> u8
     ensures { result ≡ degree_of (chart_of chip.now) a }
 {
-    let mut count = 0;
-    for b in 0..chip.wires() {
-        if chip.coupled(Wire(a), Wire(b)) {
-            count += 1;
-        }
-    }
-    count
+    (0..chip.wires())
+        .filter(|b| chip.coupled(Wire(a), Wire(*b)))
+        .count() as u8
 }
 
-/// The distance of two wires of the chip.
+/// The distance of two wires; 0 where one is not a wire of the chip.
 pub(crate) fn distance(chip: &Chip, a: u8, b: u8) -> u8
-    ensures { (far : ℕ → ℕ → ℕ) → Far (chart_of chip.now) far → (a < (chart_of chip.now).wires) × (b < (chart_of chip.now).wires) → result ≡ far a b }
+    ensures { (far : ℕ → ℕ → ℕ) → Far (chart_of chip.now) far → result ≡ within (chart_of chip.now).wires far a b }
 {
-    match chip.distance(Wire(a), Wire(b)) {
-        Some(d) => d,
-        None => 0,
-    }
+    chip.distance(Wire(a), Wire(b)).unwrap_or(0)
 }
 
-/// The largest distance of wire `a` from another.
+/// The largest distance of wire `a` from another; 0 where it is not a wire of the chip.
 fn farthest(chip: &Chip, a: u8) -> u8
-    ensures { (far : ℕ → ℕ → ℕ) → Far (chart_of chip.now) far → a < (chart_of chip.now).wires → result ≡ largest (chart_of chip.now).wires (far a) }
+    ensures { (far : ℕ → ℕ → ℕ) → Far (chart_of chip.now) far → result ≡ longest (chart_of chip.now).wires far a }
 {
-    let mut most = 0;
-    for b in 0..chip.wires() {
-        most = larger(most, distance(chip, a, b));
-    }
-    most
+    (0..chip.wires()).fold(0, |most, b| most.max(distance(chip, a, b)))
 }
 
 /// The largest distance of two wires.
 pub(crate) fn diameter(chip: &Chip) -> u8
     ensures { (far : ℕ → ℕ → ℕ) → Far (chart_of chip.now) far → result ≡ diameter_of (chart_of chip.now).wires far }
 {
-    let mut most = 0;
-    for a in 0..chip.wires() {
-        most = larger(most, farthest(chip, a));
-    }
-    most
-}
-
-/// The larger of two numbers.
-fn larger(x: u8, y: u8) -> u8
-    ensures { result ≡ max x y }
-{
-    if x < y { y } else { x }
+    (0..chip.wires()).fold(0, |most, a| most.max(farthest(chip, a)))
 }

@@ -7,17 +7,13 @@ use Rattle.rows.specs.Steps.{Gate, one, two, gate, fits, has}
 use Rattle.machine.specs.Machines.{run}
 use Rattle.machine.specs.Local.{Cells, wires, local}
 use Rattle.machine.specs.Chains.{Within, none, skip, keep, Leads}
-use Rattle.machine.proofs.OneGate.{gated_unfit, gated_off, keeps_wires, has_below, at_one, at_first, at_second}
+use Rattle.machine.proofs.OneGate.{gated_unfit, gated_off, keeps_wires, run_wires, has_below, at_one, at_first, at_second}
 use Rattle.cone.specs.Sets.{cone_rule, own_wires, In}
 use Rattle.cone.specs.Causal.{Causal}
 use Rattle.cone.proofs.Unions.{in_or, or_in, own_in, in_own}
 
 abbrev after : Gate → Cells ℕ → Cells ℕ
 after g u = (local cone_rule).gated g u
-
--- the wires that a gate joins: each with itself, and its own
-abbrev Joins : Gate → ℕ → ℕ → Type 0
-Joins g v w = (v ≡ w) ⊎ ((has g v ≡ true) × (has g w ≡ true))
 
 -- both wires of a gate on two have the union
 union : (κ : Kind) (k a b : ℕ) (u : Cells ℕ) → fits (wires u) (two κ k a b) ≡ true → (w : ℕ) → has (two κ k a b) w ≡ true →
@@ -99,15 +95,11 @@ module _ {n : ℕ} where
   starts_below i h (skip g k) w l = starts_below i h k w l
   starts_below i h (keep g f k) w l = has_below n g w f l.0
 
-run_wires : (n : ℕ) (gates : List Gate) (u : Cells ℕ) → wires u ≡ n → wires (ran gates u) ≡ n
-run_wires n [] u e = e
-run_wires n (g ∷ gates) u e = run_wires n gates (after g u) (keeps_wires cone_rule g u n e)
-
 pub causal : (n : ℕ) → n ≤ 64 → Causal n (own_wires n)
 causal n narrow gates j i h =
     let u = ran gates (own_wires n) in
     let e : wires (own_wires n) ≡ n = omega arith in
-    let s : wires u ≡ n = run_wires n gates (own_wires n) e in
+    let s : wires u ≡ n = run_wires cone_rule n gates (own_wires n) e in
     let r : (local cone_rule).reads u i ≡ u.cell i = cond-true _ (u.cell i) 0 (lt-ltb i (wires u) (omega arith)) in (
       λ m. let q = chained {n = n} gates (own_wires n) e j i (subst (In j) r m) in
           (q.1, record { within = q.2; leads = subst (λ (k : ℕ). Leads k q.1 i) (sym (own_in n j q.0 q.4)) q.3 }),

@@ -1,8 +1,13 @@
 -- The state of Cone.
-use Rattle.std.specs.Prelude.{ℕ, false}
+use Rattle.std.specs.Prelude.{ℕ}
 use Rattle.machine.specs.Local.{Cells}
-use Rattle.cells.specs.Tables.{tabled}
-use Rattle.cone.specs.declared.Cone.{Cone}
+use Rattle.cells.specs.declared.table.Table.{Table}
+use Rattle.cells.specs.Means.{means_of}
+use Rattle.cone.specs.declared.ConeRule.{ConeRule}
+
+-- a table of sets
+abbrev pub Cone : Type 0
+Cone = Table ConeRule ℕ
 
 abbrev pub cone_means : Cone → Cells ℕ
-cone_means s = tabled 0 s.width.n s.sets false
+cone_means s = means_of 0 s

@@ -2,28 +2,24 @@
 
 #![tactic(auto)]
 
-ghost use Rattle.std.specs.Prelude.{◌≡◌, ℕ, ◌^◌, min, false, map};
-ghost use Rattle.std.specs.List.{range_with_len};
-ghost use Rattle.machine.specs.Local.{Cells, local};
-ghost use Rattle.cells.specs.Tables.{made_of};
-ghost use Rattle.cone.specs.Causal.{Causal};
-ghost use Rattle.cone.specs.Means.{cone_means};
-ghost use Rattle.cone.specs.Sets.{cone_rule, set_of, own_wires};
+ghost use Rattle.std.specs.Prelude.{◌≡◌, ◌^◌, nat_lt, refl, ⊤};
 ghost use Rattle.std.proofs.Math.Nat.{zero-mod};
-ghost use Rattle.machine.proofs.LocalLaws.{local_lawful};
+ghost use Rattle.std.proofs.lemmas.Bool.{cond-false, le-ltb};
+ghost use Rattle.cone.specs.Causal.{Causal};
+ghost use Rattle.cone.specs.Sets.{cone_rule, set_of, own_wires};
 
-use cells::{Local, Width, count_wires, fill_cells, gate_cells, read_cell, trade_cells};
-use machine::{Double, Machine, Single};
+use cells::{Local, Table, Width};
+use machine::{Double, Single};
 use rows::{Kind, Wire};
 
-/// A set of wires a wire, wire i as the bit 2^i.
-#[derive(Clone, Copy)]
-pub struct Cone {
-    sets: [u64; 64],
-    width: Width,
-}
+/// The rule of cones: a gate on two wires gives both the union of their sets.
+pub struct ConeRule;
 
-impl Local for Cone {
+/// A set of wires a wire, wire i as the bit 2^i. In a fresh one each wire has itself alone:
+/// after any gates the set of a wire is then the wires from which a chain of gates leads there.
+pub type Cone = Table<ConeRule, u64>;
+
+impl Local for ConeRule {
     type Cell = u64;
 
     ghost rule = { cone_rule };
@@ -32,7 +28,15 @@ impl Local for Cone {
 
     ghost blank = { 0 };
 
+    ghost fresh = { own_wires };
+
+    ghost Promise = { ⊤ };
+
+    ghost FreshPromise = { Causal };
+
     ghost zero = { λ n. zero-mod (2 ^ n) };
+
+    ghost begun = { λ n. record { wide = refl; plus = refl; past = λ w h. cond-false (nat_lt w n) (2 ^ w) 0 (le-ltb w n h) } };
 
     fn make(width: u8, number: u64) -> u64 {
         if width < 64 {
@@ -40,6 +44,10 @@ impl Local for Cone {
         } else {
             number
         }
+    }
+
+    fn begin(width: Width, wire: Wire) -> u64 {
+        if width.has(wire) { 1 << wire.0 } else { 0 }
     }
 
     fn shown(cell: u64) -> u64 {
@@ -61,66 +69,6 @@ impl Local for Cone {
             flips: false,
         }
     }
-}
 
-/// The set of each wire alone.
-fn powers() -> [u64; 64]
-    ensures { result ≡ map (λ i. 2 ^ i) (range_with_len 0 64) }
-{
-    let mut sets = [0; 64];
-    for i in 0..64usize {
-        sets[i] = 1u64 << i;
-    }
-    sets
-}
-
-impl Cone {
-    /// The sets as the numbers give them, empty where there is none; wires that are not below the width are dropped.
-    /// More than 64 wires count as 64.
-    pub fn new(width: u8, numbers: &[u64]) -> Cone
-        ensures { cone_means result ≡ made_of (set_of (min width 64)) (min width 64) numbers.now false }
-    {
-        let width = Width::new(width);
-        let mut sets = [0; 64];
-        fill_cells::<Cone>(&mut sets, width, numbers);
-        Cone { sets, width }
-    }
-
-    /// Each wire with itself alone. After any gates the set of a wire is then the wires from which a chain of gates leads there.
-    pub fn fresh(width: u8) -> Cone
-        ensures made { cone_means result ≡ own_wires (min width 64) }
-        ensures causal { Causal (min width 64) (cone_means result) }
-    {
-        Cone::new(width, &powers())
-    }
-}
-
-impl Machine for Cone {
-    ghost State = { Cells ℕ };
-
-    ghost means = { cone_means };
-
-    ghost acts = { local cone_rule };
-
-    ghost lawful = { local_lawful cone_rule };
-
-    fn width(&self) -> u8 {
-        count_wires::<Cone>(&self.sets, self.width)
-    }
-
-    fn knows(&self, kind: Kind) -> bool {
-        <Cone as Local>::known(kind)
-    }
-
-    fn gate(&mut self, kind: Kind, a: Wire, b: Wire, k: u8) {
-        let _ = gate_cells::<Cone>(&mut self.sets, false, self.width, kind, a, b, k);
-    }
-
-    fn exchange(&mut self, a: Wire, b: Wire) {
-        trade_cells::<Cone>(&mut self.sets, self.width, a, b);
-    }
-
-    fn read(&self, wire: Wire) -> u64 {
-        read_cell::<Cone>(&self.sets, self.width, wire)
-    }
+    fn promise(_width: Width) {}
 }

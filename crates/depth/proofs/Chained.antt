@@ -5,7 +5,7 @@ use Rattle.rows.specs.Steps.{Gate, one, two, gate, fits, has}
 use Rattle.machine.specs.Machines.{run}
 use Rattle.machine.specs.Local.{Rule, Cells, wires, local}
 use Rattle.machine.specs.Chains.{Within, none, skip, keep, Leads, Chain}
-use Rattle.machine.proofs.OneGate.{gated_unfit, gated_off, keeps_wires, at_one, at_first, at_second}
+use Rattle.machine.proofs.OneGate.{gated_unfit, gated_off, keeps_wires, run_wires, at_one, at_first, at_second}
 use Rattle.depth.specs.Counts.{depth_rule, zeros, largest}
 use Rattle.depth.specs.Longest.{Longest, CountsChains}
 
@@ -124,7 +124,7 @@ module _ (cap : ℕ) where
         omega arith
 
 -- some of the gates are not more than the gates
-at_most_all : {n : ℕ} {c gates : List Gate} → Within n c gates → length c ≤ length gates
+pub at_most_all : {n : ℕ} {c gates : List Gate} → Within n c gates → length c ≤ length gates
 at_most_all none = omega arith
 at_most_all (skip g k) = let h = at_most_all k in omega arith
 at_most_all (keep g f k) = let h = at_most_all k in omega arith
@@ -142,12 +142,8 @@ longest n narrow gates i =
       counted = omega (arith, q.3, t.3, at_most_all q.2.within, at_most_all t.2.within, every_chain (length gates) n narrow gates i t.0 t.1 t.2, every_chain largest n narrow gates i q.0 q.1 q.2);
     }
 
-run_wires : (n : ℕ) (gates : List Gate) (u : Cells ℕ) → wires u ≡ n → wires (run (local depth_rule) (map gate gates) u) ≡ n
-run_wires n [] u e = e
-run_wires n (g ∷ gates) u e = run_wires n gates ((local depth_rule).gated g u) (keeps_wires depth_rule g u n e)
-
 pub counts_chains : (n : ℕ) → n ≤ 64 → CountsChains n (zeros n)
 counts_chains n narrow gates i h =
     let u = run (local depth_rule) (map gate gates) (zeros n) in
-    let e : wires u ≡ n = run_wires n gates (zeros n) (omega arith) in
+    let e : wires u ≡ n = run_wires depth_rule n gates (zeros n) (omega arith) in
     subst (Longest n gates i) (sym (cond-true _ (u.cell i) 0 (lt-ltb i (wires u) (omega arith)))) (longest n narrow gates i)

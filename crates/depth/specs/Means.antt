@@ -1,8 +1,13 @@
 -- The state of Depth.
-use Rattle.std.specs.Prelude.{ℕ, false}
+use Rattle.std.specs.Prelude.{ℕ}
 use Rattle.machine.specs.Local.{Cells}
-use Rattle.cells.specs.Tables.{tabled}
-use Rattle.depth.specs.declared.Depth.{Depth}
+use Rattle.cells.specs.declared.table.Table.{Table}
+use Rattle.cells.specs.Means.{means_of}
+use Rattle.depth.specs.declared.DepthRule.{DepthRule}
+
+-- a table of counts
+abbrev pub Depth : Type 0
+Depth = Table DepthRule ℕ
 
 abbrev pub depth_means : Depth → Cells ℕ
-depth_means s = tabled 0 s.width.n s.counts false
+depth_means s = means_of 0 s

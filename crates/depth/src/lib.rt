@@ -2,26 +2,21 @@
 
 #![tactic(auto)]
 
-ghost use Rattle.std.specs.Prelude.{◌≡◌, ℕ, min, false, refl};
-ghost use Rattle.machine.specs.Local.{Cells, local};
-ghost use Rattle.cells.specs.Tables.{made_of};
+ghost use Rattle.std.specs.Prelude.{◌≡◌, refl, ⊤};
 ghost use Rattle.depth.specs.Counts.{depth_rule, count_of, zeros};
 ghost use Rattle.depth.specs.Longest.{CountsChains};
-ghost use Rattle.depth.specs.Means.{depth_means};
-ghost use Rattle.machine.proofs.LocalLaws.{local_lawful};
 
-use cells::{Local, Width, count_wires, fill_cells, gate_cells, read_cell, trade_cells};
-use machine::{Double, Machine, Single};
+use cells::{Local, Table, Width};
+use machine::{Double, Single};
 use rows::{Kind, Wire};
 
-/// A count a wire.
-#[derive(Clone, Copy)]
-pub struct Depth {
-    counts: [u32; 64],
-    width: Width,
-}
+/// The rule of depths: a gate counts one more than the larger count of its wires.
+pub struct DepthRule;
 
-impl Local for Depth {
+/// A count a wire, 0 on each wire of a fresh one: a wire then reads the length of the longest chain of gates that ends there.
+pub type Depth = Table<DepthRule, u32>;
+
+impl Local for DepthRule {
     type Cell = u32;
 
     ghost rule = { depth_rule };
@@ -30,14 +25,26 @@ impl Local for Depth {
 
     ghost blank = { 0 };
 
+    ghost fresh = { zeros };
+
+    ghost Promise = { ⊤ };
+
+    ghost FreshPromise = { CountsChains };
+
     ghost zero = { λ _. refl };
+
+    ghost begun = { λ _. record { wide = refl; plus = refl; past = λ _ _. refl } };
 
     fn make(_width: u8, number: u64) -> u32 {
         (number % 0x1_0000_0000) as u32
     }
 
+    fn begin(_width: Width, _wire: Wire) -> u32 {
+        0
+    }
+
     fn shown(cell: u32) -> u64 {
-        cell as u64
+        u64::from(cell)
     }
 
     fn known(_kind: Kind) -> bool {
@@ -59,54 +66,6 @@ impl Local for Depth {
             flips: false,
         }
     }
-}
 
-impl Depth {
-    /// The counts are the low 32 bits of the numbers, 0 where there is none. More than 64 wires count as 64.
-    pub fn new(width: u8, numbers: &[u64]) -> Depth
-        ensures { depth_means result ≡ made_of count_of (min width 64) numbers.now false }
-    {
-        let width = Width::new(width);
-        let mut counts = [0; 64];
-        fill_cells::<Depth>(&mut counts, width, numbers);
-        Depth { counts, width }
-    }
-
-    /// 0 on every wire. After any gates a wire then reads the length of the longest chain of gates that ends there.
-    pub fn fresh(width: u8) -> Depth
-        ensures made { depth_means result ≡ zeros (min width 64) }
-        ensures counts { CountsChains (min width 64) (depth_means result) }
-    {
-        Depth::new(width, &[])
-    }
-}
-
-impl Machine for Depth {
-    ghost State = { Cells ℕ };
-
-    ghost means = { depth_means };
-
-    ghost acts = { local depth_rule };
-
-    ghost lawful = { local_lawful depth_rule };
-
-    fn width(&self) -> u8 {
-        count_wires::<Depth>(&self.counts, self.width)
-    }
-
-    fn knows(&self, kind: Kind) -> bool {
-        <Depth as Local>::known(kind)
-    }
-
-    fn gate(&mut self, kind: Kind, a: Wire, b: Wire, k: u8) {
-        let _ = gate_cells::<Depth>(&mut self.counts, false, self.width, kind, a, b, k);
-    }
-
-    fn exchange(&mut self, a: Wire, b: Wire) {
-        trade_cells::<Depth>(&mut self.counts, self.width, a, b);
-    }
-
-    fn read(&self, wire: Wire) -> u64 {
-        read_cell::<Depth>(&self.counts, self.width, wire)
-    }
+    fn promise(_width: Width) {}
 }

@@ -1,10 +1,10 @@
 -- Names that are one to one.
-use Rattle.std.proofs.Common.{◌≡◌, ℕ, ◌<◌, ◌≤◌, cond, ◌&&◌, eqb, ltb, ◌≢◌, List, length, get_or, take, sym, refl, ap, ◌∙◌, subst, ⊎_elim, arith}
+use Rattle.std.proofs.Common.{◌≡◌, ℕ, ◌<◌, ◌≤◌, cond, ◌&&◌, ltb, List, length, get_or, take, sym, refl, ap, ◌∙◌, subst, arith}
 use Rattle.std.specs.List.{range_with_len, swap}
 use Rattle.std.proofs.lemmas.List.FromFn.{length-range_with_len, get_or-range_with_len, take-map-range_with_len}
 use Rattle.std.proofs.lemmas.List.Edits.{length-swap}
-use Rattle.std.proofs.lemmas.List.{get_or-take, get_or_past, get_or_default, length-take-le, map-id, ext_get_or}
-use Rattle.std.proofs.lemmas.Bool.{cond-true, cond-false, eq-eqb, ne_eqb, cases_eq}
+use Rattle.std.proofs.lemmas.List.{get_or-take, length-take-le, map-id, ext_get_or}
+use Rattle.std.proofs.lemmas.Bool.{cond-true}
 use Rattle.std.proofs.lemmas.Bool.Decides.{nat_tests}
 use Rattle.rows.specs.Steps.{trade}
 use Rattle.machine.proofs.Trading.{trade_trade}
@@ -78,20 +78,3 @@ patched n xs ys a b le f g q inside once =
       subst Once (sym e) (once_exchanged (take n xs) a b f' g' once),
       e ∙ sym (cond-true (ltb a (length (take n xs)) && ltb b (length (take n xs))) (swap (take n xs) a b) (take n xs) (grind (arith, nat_tests))),
     )
-
--- the name of a wire by the table
-pub name_front : (n wires a : ℕ) (xs : List ℕ) → n ≤ length xs → n ≡ wires → a < wires →
-    get_or xs a 0 ≡ cond (eqb (length (take n xs)) wires) (get_or (take n xs) a 64) 64
-name_front n wires a xs le e h =
-    get_or_default xs a 0 64 (omega arith)
-    ∙ sym (get_or-take n xs a 64 (omega arith))
-    ∙ sym (cond-true (eqb (length (take n xs)) wires) (get_or (take n xs) a 64) 64 (eq-eqb (length (take n xs)) wires (length-take-le n xs le ∙ e)))
-
--- a wire that has none
-pub name_none : (n wires a : ℕ) (xs : List ℕ) → n ≤ length xs → (n ≡ wires → wires ≤ a) →
-    64 ≡ cond (eqb (length (take n xs)) wires) (get_or (take n xs) a 64) 64
-name_none n wires a xs le h = ⊎_elim
-    (λ (e : n ≡ wires). sym (cond-true (eqb (length (take n xs)) wires) (get_or (take n xs) a 64) 64 (eq-eqb (length (take n xs)) wires (length-take-le n xs le ∙ e))
-    ∙ get_or_past (take n xs) a 64 (let w = h e in let l = length-take-le n xs le in omega arith)))
-    (λ (d : n ≢ wires). sym (cond-false (eqb (length (take n xs)) wires) (get_or (take n xs) a 64) 64 (ne_eqb (length (take n xs)) wires (λ e. d (sym (length-take-le n xs le) ∙ e)))))
-    (cases_eq n wires)

@@ -1,11 +1,13 @@
 // Names of wires.
-ghost use Rattle.std.specs.Prelude.{◌≡◌, take};
+ghost use Rattle.std.specs.Prelude.{◌≡◌, ◌<◌, take};
 ghost use Rattle.std.specs.List.{range_with_len};
 ghost use Rattle.layers.specs.Renaming.{Inside, Once, named, patched};
 
 use cells::Width;
 use rows::{Wire, trade};
+use std::array;
 
+// An array of 64 and a width, not a Vec: no call of a layer may allocate.
 /// A name for each wire, one to one.
 #[derive(Clone, Copy)]
 pub struct Names {
@@ -19,11 +21,12 @@ pub struct Names {
 fn counted() -> [u8; 64]
     ensures { result ≡ range_with_len 0 64 }
 {
-    let mut table = [0; 64];
-    for i in 0..64u8 {
-        table[i as usize] = i;
-    }
-    table
+    array::from_fn(
+        |i| -> u8
+            requires { i < 64 }
+            ensures { result ≡ i }
+        { i as u8 },
+    )
 }
 
 impl Names {
@@ -41,7 +44,7 @@ impl Names {
         ensures { result.0 ≡ named wires (take self.now.width.n self.now.table) a.0 }
     {
         if self.width.get() == wires && a.0 < wires {
-            Wire(self.table[a.0 as usize])
+            Wire(self.table[usize::from(a.0)])
         } else {
             Wire(64)
         }
@@ -53,7 +56,7 @@ impl Names {
     {
         let wires = self.width.get();
         if a.0 < wires && b.0 < wires {
-            trade(&mut self.table, a.0 as usize, b.0 as usize);
+            trade(&mut self.table, usize::from(a.0), usize::from(b.0));
         }
     }
 }

@@ -1,5 +1,5 @@
 -- In a local machine three cnots are an exchange, if they are one on any two cells.
-use Rattle.std.proofs.Common.{◌≡◌, ℕ, Bool, true, eqb, ◌≢◌, sym, refl, ap, ◌∙◌, arith}
+use Rattle.std.proofs.Common.{◌≡◌, ℕ, Bool, true, false, eqb, ◌≢◌, sym, refl, ap, ◌∙◌, arith}
 use Rattle.std.proofs.lemmas.Bool.{cond-true, eq-eqb}
 use Rattle.std.proofs.lemmas.Bool.Decides.{nat_tests}
 use Rattle.rows.specs.declared.kind.Kind.{Kind}
@@ -13,6 +13,19 @@ pub record Pair (C : Type 0) : Type 0 where
   pub here : C
   pub there : C
   pub minus : Bool
+
+-- the first of two bits, once it has been added to the second, and that to it, is the second
+pub first_added : (u v : Bool) → differ u (differ v u) ≡ v
+first_added true true = refl
+first_added true false = refl
+first_added false true = refl
+first_added false false = refl
+
+pub second_added : (u v : Bool) → differ (differ v u) (differ u (differ v u)) ≡ u
+second_added true true = refl
+second_added true false = refl
+second_added false true = refl
+second_added false false = refl
 
 module _ {C : Type 0} (r : Rule C) where
   -- a cnot from the first to the second, and back

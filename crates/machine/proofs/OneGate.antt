@@ -1,9 +1,10 @@
 -- What one gate of a local machine does to each cell.
-use Rattle.std.proofs.Common.{◌≡◌, ℕ, ◌<◌, min, Bool, true, false, cond, ◌&&◌, refl, ap, ◌∙◌, arith}
+use Rattle.std.proofs.Common.{◌≡◌, ℕ, ◌<◌, min, Bool, true, false, cond, ◌&&◌, List, [], ◌∷◌, map, refl, ap, ◌∙◌, arith}
 use Rattle.std.proofs.lemmas.Bool.Decides.{nat_tests}
 use Rattle.std.proofs.lemmas.Bool.{cond-true, cond-false, and_right, eq-eqb}
 use Rattle.rows.specs.declared.kind.Kind.{Kind}
-use Rattle.rows.specs.Steps.{Gate, one, two, kind_of, fits, has}
+use Rattle.rows.specs.Steps.{Gate, one, two, gate, kind_of, fits, has}
+use Rattle.machine.specs.Machines.{run}
 use Rattle.machine.specs.Local.{Cells, Rule, wires, worked, local}
 use Rattle.machine.proofs.LocalLaws.{does, keeps_width}
 
@@ -12,16 +13,16 @@ pub has_below : (n : ℕ) (g : Gate) (w : ℕ) → fits n g ≡ true → has g w
 has_below n (one κ k a) w f h = grind (arith, nat_tests)
 has_below n (two κ k a b) w f h = grind (arith, nat_tests)
 
--- a gate has its wires
-pub has_one : (κ : Kind) (k a w : ℕ) → has (one κ k a) w ≡ true → a ≡ w
-has_one κ k a w h = grind (arith, nat_tests)
-
 module _ {C : Type 0} (r : Rule C) where
   pub gated_unfit : (g : Gate) (u : Cells C) → fits (wires u) g ≡ false → (local r).gated g u ≡ u
   gated_unfit g u f = cond-false _ _ _ (and_right _ _ f)
 
   pub keeps_wires : (g : Gate) (u : Cells C) (n : ℕ) → wires u ≡ n → wires ((local r).gated g u) ≡ n
   keeps_wires g u n e = ap (λ (k : ℕ). min k 64) (keeps_width r g u) ∙ e
+
+  pub run_wires : (n : ℕ) (gates : List Gate) (u : Cells C) → wires u ≡ n → wires (run (local r) (map gate gates) u) ≡ n
+  run_wires n [] u e = e
+  run_wires n (g ∷ gates) u e = run_wires n gates ((local r).gated g u) (keeps_wires g u n e)
 
   worked_off : (g : Gate) (u : Cells C) (w : ℕ) → has g w ≡ false → (worked r g u).cell w ≡ u.cell w
   worked_off (one κ k a) u w h = cond-false _ _ _ h

@@ -28,6 +28,7 @@ pub trait Machine {
     fn knows(&self, kind: Kind) -> bool
         ensures { result ≡ acts.knows (means self.now) kind };
 
+    // Kind, wires and k, not a struct of them: these five calls are the interface that the project sets.
     /// One gate. A kind on one qubit stands on `a` alone and has no use for `b`.
     fn gate(&mut self, kind: Kind, a: Wire, b: Wire, k: u8)
         ensures { means self.new ≡ acts.gated (gate_on kind k a.0 b.0) (means self.old) };

@@ -2,14 +2,15 @@
 
 #![tactic(auto)]
 
-ghost use Rattle.std.specs.Prelude.{◌≡◌, true, [], ◌∷◌};
-ghost use Rattle.machine_cases.specs.Cases.{MachineCases};
+ghost use Rattle.std.specs.Prelude.{◌≡◌, ◌<◌, ◌≤◌, true, [], ◌∷◌};
+ghost use Rattle.machine_cases.specs.Cases.{MachineCases, readings};
 
 use cone::Cone;
 use depth::Depth;
 use machine::Machine;
 use pauli::Pauli;
 use rows::{Kind, Wire};
+use std::array;
 
 /// What a Pauli machine reads, wire by wire, and whether its sign is minus.
 #[derive(Clone, Copy)]
@@ -27,14 +28,27 @@ pub struct Readings {
     pub two_depths: [u64; 2],
 }
 
+/// What the first N wires of a machine read.
+fn read_wires<M: Machine, const N: usize>(machine: &M) -> [u64; N]
+    requires { N ≤ 64 }
+    ensures { result ≡ readings M.Machine.acts N (M.Machine.means machine.now) }
+{
+    array::from_fn(
+        |i| -> u64
+            requires { i < 64 }
+            ensures { result ≡ M.Machine.acts.reads (M.Machine.means machine.entry.now) i }
+        { machine.read(Wire(i as u8)) },
+    )
+}
+
 /// Y on wire 0 under s is -X.
 fn y_under_s() -> Product
     ensures { result ≡ record { letters = 1 ∷ 0 ∷ []; minus = true } }
 {
-    let mut p = Pauli::new(2, &[3], false);
+    let mut p = Pauli::new(2, &[3]);
     p.gate(Kind::S, Wire(0), Wire(0), 0);
     Product {
-        letters: [p.read(Wire(0)), p.read(Wire(1))],
+        letters: read_wires(&p),
         minus: p.is_minus(),
     }
 }
@@ -43,10 +57,10 @@ fn y_under_s() -> Product
 fn x_y_under_cz() -> Product
     ensures { result ≡ record { letters = 3 ∷ 1 ∷ []; minus = true } }
 {
-    let mut p = Pauli::new(2, &[1, 3], false);
+    let mut p = Pauli::new(2, &[1, 3]);
     p.gate(Kind::Cz, Wire(0), Wire(1), 0);
     Product {
-        letters: [p.read(Wire(0)), p.read(Wire(1))],
+        letters: read_wires(&p),
         minus: p.is_minus(),
     }
 }
@@ -58,7 +72,7 @@ fn three_cones() -> [u64; 3]
     let mut c = Cone::fresh(3);
     c.gate(Kind::Cnot, Wire(0), Wire(1), 0);
     c.gate(Kind::Cnot, Wire(1), Wire(2), 0);
-    [c.read(Wire(0)), c.read(Wire(1)), c.read(Wire(2))]
+    read_wires(&c)
 }
 
 /// 0, 0 under h 0 and cnot 0,1.
@@ -68,7 +82,7 @@ fn two_depths() -> [u64; 2]
     let mut d = Depth::fresh(2);
     d.gate(Kind::H, Wire(0), Wire(0), 0);
     d.gate(Kind::Cnot, Wire(0), Wire(1), 0);
-    [d.read(Wire(0)), d.read(Wire(1))]
+    read_wires(&d)
 }
 
 /// The worked cases, run; the statement that its contract names says them of the rules alone.

@@ -26,7 +26,7 @@ fn thirds_over_bits(rt: HostRuntime) {
 
 #[test]
 fn panel_over_thirds_over_pauli(rt: HostRuntime) {
-    let mut pile = Panel::new(Thirds::new(Pauli::new(3, &[1, 2, 3], false)));
+    let mut pile = Panel::new(Thirds::new(Pauli::new(3, &[1, 2, 3])));
     assert!(rt; pile.width() == 3 && pile.knows(Kind::Cz) && !pile.knows(Kind::T));
     assert!(rt; reads(&pile, [1, 2, 3, 0]));
     // wire 0 goes by 2, and wire 2 by 0

@@ -15,14 +15,14 @@ const Y: u64 = 3;
 
 // A gate on wire 0 of one wire, from plus: the letter after it, and whether the sign is then minus.
 fn single(kind: Kind, letter: u64) -> (u64, bool) {
-    let mut p = Pauli::new(1, &[letter], false);
+    let mut p = Pauli::new(1, &[letter]);
     p.gate(kind, Wire(0), Wire(0), 0);
     (p.read(Wire(0)), p.is_minus())
 }
 
 // A gate on wires 0 and 1.
 fn double(kind: Kind, first: u64, second: u64) -> (u64, u64, bool) {
-    let mut p = Pauli::new(2, &[first, second], false);
+    let mut p = Pauli::new(2, &[first, second]);
     p.gate(kind, Wire(0), Wire(1), 0);
     (p.read(Wire(0)), p.read(Wire(1)), p.is_minus())
 }
@@ -145,7 +145,7 @@ fn unknown_kinds(rt: HostRuntime) {
 
 #[test]
 fn signs_cancel(rt: HostRuntime) {
-    let mut p = Pauli::new(1, &[Z], true);
+    let mut p = Pauli::signed(1, &[Z], true);
     p.gate(Kind::X, Wire(0), Wire(9), 0);
     assert!(rt; !p.is_minus());
     p.gate(Kind::X, Wire(0), Wire(0), 0);
@@ -154,7 +154,7 @@ fn signs_cancel(rt: HostRuntime) {
 
 #[test]
 fn other_wires(rt: HostRuntime) {
-    let mut p = Pauli::new(2, &[X, Z, Y], false);
+    let mut p = Pauli::new(2, &[X, Z, Y]);
     p.gate(Kind::H, Wire(2), Wire(0), 0);
     p.gate(Kind::Cnot, Wire(0), Wire(2), 0);
     p.gate(Kind::Cnot, Wire(0), Wire(0), 0);
@@ -169,12 +169,12 @@ fn other_wires(rt: HostRuntime) {
 fn widths_and_numbers(rt: HostRuntime) {
     for (wires, width) in [(0u8, 0u8), (1, 1), (64, 64), (65, 64), (200, 64)] {
         assert!(rt; Pauli::fresh(wires).width() == width);
-        assert!(rt; Pauli::new(wires, &[], true).width() == width);
+        assert!(rt; Pauli::signed(wires, &[], true).width() == width);
     }
-    let p = Pauli::new(4, &[4, 7, 0xffff_fffe], false);
+    let p = Pauli::new(4, &[4, 7, 0xffff_fffe]);
     assert!(rt; reads(&p, [I, Y, Z, I]));
-    let q = Pauli::new(0, &[3], true);
+    let q = Pauli::signed(0, &[3], true);
     assert!(rt; q.read(Wire(0)) == 0 && q.is_minus());
-    let r = Pauli::new(200, &[1; 65], false);
+    let r = Pauli::new(200, &[1; 65]);
     assert!(rt; r.read(Wire(63)) == X && r.read(Wire(64)) == 0 && r.read(Wire(255)) == 0);
 }

@@ -2,6 +2,7 @@
 use Rattle.std.specs.Prelude.{◌≡◌, ℕ, true, false}
 use Rattle.rows.specs.declared.kind.Kind.{Kind}
 use Rattle.rows.specs.Steps.{Gate, one, two, kind_of, fits, has}
+use Rattle.machine.specs.Machines.{HasTrueCnot}
 use Rattle.machine.specs.Local.{Cells, wires, local}
 use Rattle.pauli.specs.declared.Letter.{Letter}
 use Rattle.pauli.specs.Letters.{pauli_rule, pauli_known}
@@ -25,3 +26,8 @@ pub record Conjugated (g : Gate) (u v : Cells Letter) : Type 0 where
 -- every gate that Pauli does is conjugation by the gate's matrix, for all letters and signs
 abbrev pub Conjugates : Type 0
 Conjugates = (g : Gate) (u : Cells Letter) → pauli_known (kind_of g) ≡ true → fits (wires u) g ≡ true → Conjugated g u ((local pauli_rule).gated g u)
+
+-- what is promised of the rule
+pub record PauliPromise : Type 0 where
+  pub conjugates : Conjugates
+  pub true_cnot : HasTrueCnot (local pauli_rule)

@@ -1,10 +1,15 @@
 -- The state of Pauli.
 use Rattle.std.specs.Prelude.{false}
 use Rattle.machine.specs.Local.{Cells}
-use Rattle.cells.specs.Tables.{tabled}
+use Rattle.cells.specs.declared.table.Table.{Table}
+use Rattle.cells.specs.Means.{means_of}
 use Rattle.pauli.specs.declared.Letter.{Letter}
-use Rattle.pauli.specs.declared.Pauli.{Pauli}
+use Rattle.pauli.specs.declared.PauliRule.{PauliRule}
 use Rattle.pauli.specs.Letters.{letter}
 
+-- a table of letters
+abbrev pub Pauli : Type 0
+Pauli = Table PauliRule Letter
+
 abbrev pub pauli_means : Pauli → Cells Letter
-pauli_means s = tabled (letter false false) s.width.n s.letters s.minus
+pauli_means s = means_of (letter false false) s

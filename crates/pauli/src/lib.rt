@@ -2,19 +2,14 @@
 
 #![tactic(auto)]
 
-ghost use Rattle.std.specs.Prelude.{◌≡◌, min, false, refl};
+ghost use Rattle.std.specs.Prelude.{◌≡◌, false, refl, ⊤};
 ghost use Rattle.rows.specs.declared.kind.Kind.{Kind};
-ghost use Rattle.machine.specs.Local.{Cells, local};
-ghost use Rattle.machine.specs.Machines.{HasTrueCnot};
-ghost use Rattle.cells.specs.Tables.{made_of};
 ghost use Rattle.pauli.specs.declared.Letter.{Letter};
-ghost use Rattle.pauli.specs.Conjugation.{Conjugates};
-ghost use Rattle.pauli.specs.Letters.{pauli_rule, on_two, bit, letter, letter_of, identity};
-ghost use Rattle.pauli.specs.Means.{pauli_means};
-ghost use Rattle.machine.proofs.LocalLaws.{local_lawful};
+ghost use Rattle.pauli.specs.Conjugation.{PauliPromise};
+ghost use Rattle.pauli.specs.Letters.{pauli_rule, on_two, letter, letter_of, identity};
 
-use cells::{Local, Width, count_wires, fill_cells, gate_cells, read_cell, trade_cells};
-use machine::{Double, Machine, Single, TrueCnot};
+use cells::{Local, Signed, Table, TrueLocal, Width};
+use machine::{Double, Single};
 use rows::{Kind, Wire};
 
 /// A Pauli operator on one wire by its two bits: x alone is X, z alone is Z, both are Y, none is the identity.
@@ -24,21 +19,14 @@ pub struct Letter {
     pub z: bool,
 }
 
-/// A letter a wire, and whether the sign is minus.
-#[derive(Clone, Copy)]
-pub struct Pauli {
-    letters: [Letter; 64],
-    width: Width,
-    minus: bool,
-}
+/// The rule of Pauli products: a gate U takes the product P to U P U†.
+pub struct PauliRule;
 
-fn number(set: bool) -> u64
-    ensures { result ≡ bit set }
-{
-    if set { 1 } else { 0 }
-}
+/// A letter a wire and the sign of their product; a fresh one has no letter, and plus.
+/// The letter of a number is its two low bits, x and then z.
+pub type Pauli = Table<PauliRule, Letter>;
 
-impl Local for Pauli {
+impl Local for PauliRule {
     type Cell = Letter;
 
     ghost rule = { pauli_rule };
@@ -47,7 +35,15 @@ impl Local for Pauli {
 
     ghost blank = { letter false false };
 
+    ghost fresh = { identity };
+
+    ghost Promise = { PauliPromise };
+
+    ghost FreshPromise = { λ _ _. ⊤ };
+
     ghost zero = { λ _. refl };
+
+    ghost begun = { λ _. record { wide = refl; plus = refl; past = λ _ _. refl } };
 
     fn make(_width: u8, number: u64) -> Letter {
         Letter {
@@ -56,15 +52,16 @@ impl Local for Pauli {
         }
     }
 
+    fn begin(_width: Width, _wire: Wire) -> Letter {
+        Letter { x: false, z: false }
+    }
+
     fn shown(cell: Letter) -> u64 {
-        number(cell.x) + 2 * number(cell.z)
+        u64::from(cell.x) + 2 * u64::from(cell.z)
     }
 
     fn known(kind: Kind) -> bool {
-        match kind {
-            Kind::T | Kind::Tdag | Kind::Crk => false,
-            _ => true,
-        }
+        !matches!(kind, Kind::T | Kind::Tdag | Kind::Crk)
     }
 
     fn single(kind: Kind, _k: u8, cell: Letter) -> Single<Letter> {
@@ -95,6 +92,8 @@ impl Local for Pauli {
             },
         }
     }
+
+    fn promise(_width: Width) {}
 }
 
 /// The control's x is added to the target's, and the target's z to the control's.
@@ -131,75 +130,8 @@ fn cz(first: Letter, second: Letter) -> Double<Letter>
     }
 }
 
-impl Pauli {
-    /// The letters are the two low bits of the numbers, x and then z, none where there is no number; the sign is as given.
-    /// More than 64 wires count as 64.
-    pub fn new(width: u8, numbers: &[u64], minus: bool) -> Pauli
-        ensures made { pauli_means result ≡ made_of letter_of (min width 64) numbers.now minus }
-        ensures conjugates { Conjugates }
-        ensures true_cnot { HasTrueCnot (local pauli_rule) }
-    {
-        let width = Width::new(width);
-        let mut letters = [Letter { x: false, z: false }; 64];
-        fill_cells::<Pauli>(&mut letters, width, numbers);
-        Pauli {
-            letters,
-            width,
-            minus,
-        }
-    }
+impl Signed for PauliRule {}
 
-    /// No letter on any wire, and plus.
-    pub fn fresh(width: u8) -> Pauli
-        ensures made { pauli_means result ≡ identity (min width 64) }
-        ensures conjugates { Conjugates }
-    {
-        Pauli::new(width, &[], false)
-    }
-
-    /// Whether the sign is minus.
-    pub fn is_minus(&self) -> bool
-        ensures { result ≡ (pauli_means self.now).minus }
-    {
-        self.minus
-    }
-}
-
-impl Machine for Pauli {
-    ghost State = { Cells Letter };
-
-    ghost means = { pauli_means };
-
-    ghost acts = { local pauli_rule };
-
-    ghost lawful = { local_lawful pauli_rule };
-
-    fn width(&self) -> u8 {
-        count_wires::<Pauli>(&self.letters, self.width)
-    }
-
-    fn knows(&self, kind: Kind) -> bool {
-        <Pauli as Local>::known(kind)
-    }
-
-    fn gate(&mut self, kind: Kind, a: Wire, b: Wire, k: u8) {
-        let Pauli {
-            letters,
-            width,
-            minus,
-        } = self;
-        *minus = gate_cells::<Pauli>(letters, *minus, *width, kind, a, b, k);
-    }
-
-    fn exchange(&mut self, a: Wire, b: Wire) {
-        trade_cells::<Pauli>(&mut self.letters, self.width, a, b);
-    }
-
-    fn read(&self, wire: Wire) -> u64 {
-        read_cell::<Pauli>(&self.letters, self.width, wire)
-    }
-}
-
-impl TrueCnot for Pauli {
-    fn true_cnot(&self, _a: Wire, _b: Wire) {}
+impl TrueLocal for PauliRule {
+    fn cross() {}
 }

@@ -63,17 +63,6 @@ module _ (n q w : ℕ) (at on : List ℕ) (both : Both n at on) (la : n ≤ leng
           (λ i h. let k : i < length (take q at) = (simp length-map at h) in let j : i < q = omega arith in
           get_or-map (trade (get_or at q 0) w) (take q at) i 0 0 k ∙ ap (trade (get_or at q 0) w) (get_or-take q at i 0 j) ∙ apart i j ∙ sym (get_or-take q at i 0 j))
 
-module _ (s : Places) (w : ℕ) where
-  pub taken_by : w < s.wires → get_or s.on w 0 < s.qubits → Taken s w
-  taken_by hw h = inr (get_or s.on w 0, h, get_or-take s.qubits s.at (get_or s.on w 0) 0 h ∙ s.there w hw)
-
-  pub not_taken : w < s.wires → s.qubits ≤ get_or s.on w 0 → ¬ Taken s w
-  not_taken hw h (inl l) = omega arith
-  not_taken hw h (inr (q, l, e)) =
-      let same : get_or s.at q 0 ≡ w = sym (get_or-take s.qubits s.at q 0 l) ∙ e in
-      let entry : get_or s.on w 0 ≡ q = ap (λ v. get_or s.on v 0) (sym same) ∙ s.back q (omega (arith, s.enough)) in
-      omega arith
-
 -- the first q of these places are those of s
 module _ (s : Places) (ps : List Wire) (q : ℕ) (counted_so : s.qubits ≡ q) (e : places_of s ≡ numbers (take q ps)) (hq : q < length ps) where
   before : (r : ℕ) → r < q → get_or (places_of s) r 0 ≡ get_or (numbers ps) r 0

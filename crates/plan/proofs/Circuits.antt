@@ -1,7 +1,8 @@
 -- Gates of rows, one after the other.
-use Rattle.std.proofs.Common.{◌≡◌, ℕ, ◌+◌, ◌<◌, ◌≤◌, List, [], ◌∷◌, ◌++◌, map, length, get_or, take, set, Some, None, Option, sym, refl, ap, ◌∙◌, subst, arith}
+use Rattle.std.proofs.Common.{◌≡◌, ℕ, ◌+◌, ◌<◌, ◌≤◌, List, [], ◌∷◌, ◌++◌, map, length, get_or, take, set, Some, None, Option, MatchOption, sym, refl, ap, ◌∙◌, subst, arith}
 use lib.ListN.{length-map}
-use Rattle.std.proofs.lemmas.List.{take_more, take_more_set, map-append, take_all, length-take-le, get_or-take, get_or-map}
+use Rattle.std.specs.List.{AllWithin, HoldsAt}
+use Rattle.std.proofs.lemmas.List.{take_more, take_more_set, map-append, take_all, get_or-map}
 use Rattle.rows.specs.declared.kind.Kind.{Kind}
 use Rattle.rows.specs.declared.row.Gate.{Gate as GateRow}
 use Rattle.rows.specs.declared.place.Logical.{Logical}
@@ -11,7 +12,7 @@ use Rattle.rows.specs.declared.refusal.Fault.{Fault}
 use Rattle.rows.specs.Steps.{Gate, one, gate_at, gate_of, gates_of, gate_row}
 use Rattle.sheet.specs.Refusals.{BadRows, bad_row, too_many, row_number}
 use Rattle.plan.specs.declared.circuit.Circuit.{Circuit}
-use Rattle.plan.specs.Circuits.{gates_in, Reads, Miswritten}
+use Rattle.plan.specs.Circuits.{Reads, Miswritten}
 
 gates_push : (n : ℕ) (rs : List GateRow) (r : GateRow) (g : Gate) → gate_of n r ≡ Some g → gates_of n (rs ++ r ∷ []) ≡ gates_of n rs ++ g ∷ []
 gates_push n [] r g e = ap (λ (o : Option Gate). elim o as (λ _. List Gate) [ None ↦ [] | Some h ↦ h ∷ [] ]) e
@@ -61,13 +62,24 @@ module _ (n : ℕ) (rows : List GateRow) where
       none (bad_row {i = j} l e) = good j (omega arith) e
       none (too_many l) = omega arith
 
--- the length of the list of gates, and its entries
-module _ (c : Circuit) where
-  pub gates_length : length (gates_in c) ≡ c.count
-  gates_length = length-map (take c.count c.gates) gate_at ∙ length-take-le c.count c.gates (omega (arith, c.few, c.long))
+-- the first gate of which a property does not hold, by the list of decoded gates
+module _ (P Q : Gate → Type 0) (ops : List (Placed Logical)) where
+  abbrev no_op : Placed Logical
+  no_op = Placed.One Kind.X 0 (record { 0 = 0 })
 
-  pub gates_at : (i : ℕ) → i < c.count → get_or (gates_in c) i (one Kind.X 0 0) ≡ gate_at (get_or c.gates i (Placed.One Kind.X 0 (record { 0 = 0 })))
-  gates_at i h =
-      get_or-map gate_at (take c.count c.gates) i (Placed.One Kind.X 0 (record { 0 = 0 })) (one Kind.X 0 0)
-      (omega (arith, length-take-le c.count c.gates (omega (arith, c.few, c.long))))
-      ∙ ap gate_at (get_or-take c.count c.gates i (Placed.One Kind.X 0 (record { 0 = 0 })) h)
+  decoded : (R : Gate → Type 0) (i : ℕ) → i < length ops → R (gate_at (get_or ops i no_op)) → R (get_or (map gate_at ops) i (one Kind.X 0 0))
+  decoded R i l h = subst R (sym (get_or-map gate_at ops i no_op (one Kind.X 0 0) l)) h
+
+  pub first_gate : (r : Option ℕ) →
+      MatchOption r
+      (AllWithin (λ o. Q (gate_at o)) ops 0 (length ops))
+      (λ i. (i < length ops) × HoldsAt (λ o. P (gate_at o)) ops i × AllWithin (λ o. Q (gate_at o)) ops 0 i) →
+      MatchOption r
+      ((i : ℕ) → i < length (map gate_at ops) → Q (get_or (map gate_at ops) i (one Kind.X 0 0)))
+      (λ i. (i < length (map gate_at ops)) × P (get_or (map gate_at ops) i (one Kind.X 0 0)) × ((j : ℕ) → j < i → Q (get_or (map gate_at ops) j (one Kind.X 0 0))))
+  first_gate None h = λ i l. let k : i < length ops = omega (arith, length-map ops gate_at) in decoded Q i k (h i no_op (omega arith) k)
+  first_gate (Some i) h = (
+    omega (arith, length-map ops gate_at, h.0),
+    decoded P i h.0 (h.1 no_op),
+    λ j l. let k : j < length ops = omega (arith, h.0) in decoded Q j k (h.2 j no_op (omega arith) l),
+  )

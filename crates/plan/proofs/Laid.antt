@@ -27,7 +27,7 @@ module _ (a : Ability) (wires : ℕ) (records : List ℕ) (qubits : ℕ) (ps : L
   same_wires : (chart_of chip).wires ≡ wires
   same_wires = ap (λ (h : Chart). h.wires) same_chart
 
-  pub first_turned : (f : Fault) → Misplaced (chart_of chip).wires qubits (numbers ps) f → Turned (Fits a wires records qubits ps rows) f
+  pub first_turned : (f : Fault) → Misplaced (chart_of chip).wires qubits (numbers ps) f → Turned (Fits a (layout wires records qubits ps rows)) f
   first_turned f m = turned_places a.width (known a.kinds) (layout wires records qubits ps rows) chip_good f
       (subst (λ (n : ℕ). Misplaced n qubits (numbers ps) f) same_wires m)
 
@@ -35,12 +35,12 @@ module _ (a : Ability) (wires : ℕ) (records : List ℕ) (qubits : ℕ) (ps : L
     places_good : (q : ℕ) → ¬ BadPlaces wires qubits (numbers ps) q
     places_good = subst (λ (n : ℕ). (q : ℕ) → ¬ BadPlaces n qubits (numbers ps) q) same_wires lays.good
 
-    pub circuit_turned : (f : Fault) → Miswritten qubits rows f → Turned (Fits a wires records qubits ps rows) f
+    pub circuit_turned : (f : Fault) → Miswritten qubits rows f → Turned (Fits a (layout wires records qubits ps rows)) f
     circuit_turned f m = turned_rows a.width (known a.kinds) (layout wires records qubits ps rows) chip_good places_good f m
 
     module _ (circuit : Circuit) (reads : Reads qubits rows circuit) where
-      pub width_turned : (w : ℕ) → w ≡ a.width → w < wires → Turned (Fits a wires records qubits ps rows) (record { refusal = Refusal.Narrow; place = w })
-      width_turned w e l = subst (λ (v : ℕ). Turned (Fits a wires records qubits ps rows) (record { refusal = Refusal.Narrow; place = v })) (sym e)
+      pub width_turned : (w : ℕ) → w ≡ a.width → w < wires → Turned (Fits a (layout wires records qubits ps rows)) (record { refusal = Refusal.Narrow; place = w })
+      width_turned w e l = subst (λ (v : ℕ). Turned (Fits a (layout wires records qubits ps rows)) (record { refusal = Refusal.Narrow; place = v })) (sym e)
           (turned_width a.width (known a.kinds) (layout wires records qubits ps rows) chip_good places_good reads.good (omega arith))
 
       -- gate i, by the circuit and by the rows
@@ -52,7 +52,7 @@ module _ (a : Ability) (wires : ℕ) (records : List ℕ) (qubits : ℕ) (ps : L
 
       pub kind_turned : wires ≤ a.width → (i : ℕ) → i < length (gates_in circuit) → known a.kinds (kind_of (number (gates_in circuit) i)) ≡ false →
           ((j : ℕ) → j < i → known a.kinds (kind_of (number (gates_in circuit) j)) ≡ true) →
-          Turned (Fits a wires records qubits ps rows) (record { refusal = Refusal.UnknownKind; place = i })
+          Turned (Fits a (layout wires records qubits ps rows)) (record { refusal = Refusal.UnknownKind; place = i })
       kind_turned wide i l e before =
           let x = layout wires records qubits ps rows in
           turned_kind a.width (known a.kinds) x chip_good places_good reads.good wide i
@@ -60,7 +60,7 @@ module _ (a : Ability) (wires : ℕ) (records : List ℕ) (qubits : ℕ) (ps : L
           (λ j h. known_at a.width (known a.kinds) x reads.good j (sym (same_kind j) ∙ before j h))
 
       pub all_accepted : wires ≤ a.width → ((i : ℕ) → i < length (gates_in circuit) → known a.kinds (kind_of (number (gates_in circuit) i)) ≡ true) →
-          Accepted (Fits a wires records qubits ps rows)
+          Accepted (Fits a (layout wires records qubits ps rows))
       all_accepted wide all =
           let x = layout wires records qubits ps rows in
           accepted_all a.width (known a.kinds) x chip_good places_good reads.good wide
@@ -72,5 +72,5 @@ module _ (a : Ability) (wires : ℕ) (records : List ℕ) (qubits : ℕ) (ps : L
       pub plan_given : plan_at chip first circuit ≡ plan_of (layout wires records qubits ps rows)
       plan_given = λ i. record { chart = same_chart i; first = lays.same i; gates = reads.same i }
 
-      pub plan_laid : Accepted (Fits a wires records qubits ps rows) → LaidPlan (plan_at chip first circuit)
+      pub plan_laid : Accepted (Fits a (layout wires records qubits ps rows)) → LaidPlan (plan_at chip first circuit)
       plan_laid accepted = record { wide = a.width; knows = known a.kinds; layout = layout wires records qubits ps rows; accepted = accepted; given = plan_given }

@@ -1,4 +1,3 @@
 pub mod Circuits
-pub mod Searching
 pub mod Laying
 pub mod Laid

@@ -8,6 +8,7 @@ use Rattle.places.specs.Placing.{numbers}
 use Rattle.sheet.specs.Sheets.{Plan as SheetPlan, unlaid, Layout, plan_of}
 use Rattle.sheet.specs.Refusals.{LayFits}
 use Rattle.plan.specs.declared.ability.Ability.{Ability}
+use Rattle.plan.specs.declared.layout.Layout.{Layout as Given}
 use Rattle.plan.specs.declared.plan.Plan.{Plan}
 use Rattle.plan.specs.Abilities.{known}
 use Rattle.plan.specs.Plans.{plan_at}
@@ -16,15 +17,19 @@ use Rattle.plan.specs.Plans.{plan_at}
 abbrev pub plan_in : Plan → SheetPlan
 plan_in s = plan_at s.chip s.first s.circuit
 
--- the layout of a call's arguments
+-- the layout of these five
 abbrev pub layout : ℕ → List ℕ → ℕ → List Wire → List GateRow → Layout
 layout wires records qubits places rows = record { wires = wires; records = records; qubits = qubits; places = numbers places; rows = rows }
 
+-- the layout that a call is given
+abbrev pub layout_in : Given → Layout
+layout_in x = layout x.chip.wires x.chip.bytes.now x.qubits x.places.now x.gates.now
+
 -- the conditions of refusals, over a machine of this ability
-abbrev pub Fits : Ability → ℕ → List ℕ → ℕ → List Wire → List GateRow → Refusal → ℕ → Type 0
-Fits a wires records qubits places rows = LayFits a.width (known a.kinds) unlaid (layout wires records qubits places rows)
+abbrev pub Fits : Ability → Layout → Refusal → ℕ → Type 0
+Fits a x = LayFits a.width (known a.kinds) unlaid x
 
 -- no condition holds, and this is the plan of the layout
-pub record LaysPlan (a : Ability) (wires : ℕ) (records : List ℕ) (qubits : ℕ) (places : List Wire) (rows : List GateRow) (s : Plan) : Type 0 where
-  pub accepted : Accepted (Fits a wires records qubits places rows)
-  pub given : plan_in s ≡ plan_of (layout wires records qubits places rows)
+pub record LaysPlan (a : Ability) (x : Layout) (s : Plan) : Type 0 where
+  pub accepted : Accepted (Fits a x)
+  pub given : plan_in s ≡ plan_of x

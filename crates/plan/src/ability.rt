@@ -15,15 +15,23 @@ pub struct Ability {
 }
 
 impl Ability {
+    /// So many wires, and every kind of gates or none.
+    fn of(width: u8, every: bool) -> Ability
+        ensures width { result.width ≡ width }
+        ensures kinds { (κ : GateKind) → known result.kinds κ ≡ every }
+    {
+        Ability {
+            width,
+            kinds: [every; 12],
+        }
+    }
+
     /// So many wires, and no kind of gates.
     pub fn none(width: u8) -> Ability
         ensures width { result.width ≡ width }
         ensures kinds { (κ : GateKind) → known result.kinds κ ≡ false }
     {
-        Ability {
-            width,
-            kinds: [false; 12],
-        }
+        Ability::of(width, false)
     }
 
     /// So many wires, and every kind of gates.
@@ -31,10 +39,7 @@ impl Ability {
         ensures width { result.width ≡ width }
         ensures kinds { (κ : GateKind) → known result.kinds κ ≡ true }
     {
-        Ability {
-            width,
-            kinds: [true; 12],
-        }
+        Ability::of(width, true)
     }
 
     /// One kind more.

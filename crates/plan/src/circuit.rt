@@ -7,6 +7,8 @@ mod search;
 use rows::Operation;
 
 /// At most 1,024 gates, in their order.
+// An array and a count, not a Vec: no call of this layer may allocate, as it is turned away only by the listed refusals.
+// Not an ArrayVec either, since that is not Copy.
 #[derive(Clone, Copy)]
 pub struct Circuit {
     gates: [Operation; 1024],

@@ -4,8 +4,10 @@
 
 mod ability;
 mod circuit;
+mod layout;
 mod plan;
 
 pub use ability::Ability;
 pub use circuit::Circuit;
+pub use layout::Layout;
 pub use plan::Plan;

@@ -5,4 +5,4 @@
 mod named;
 mod tables;
 
-pub use named::{Shipped, chip_named};
+pub use named::chip_named;

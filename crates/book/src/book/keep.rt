@@ -6,14 +6,14 @@ ghost use Rattle.rows.specs.Steps.{first_wire, second_wire, step_at};
 ghost use Rattle.sheet.specs.Sheets.{Log as SheetLog, fresh};
 ghost use Rattle.sheet.specs.Refusals.{StepFits};
 ghost use Rattle.sheet.specs.Runs.{LaidPlan};
-ghost use Rattle.plan.specs.Laying.{plan_in, Fits, LaysPlan};
+ghost use Rattle.plan.specs.Laying.{plan_in, layout_in, Fits, LaysPlan};
 ghost use Rattle.book.specs.Books.{Holds, KeepsStep};
 
 use crate::book::Book;
 use crate::log::Log;
 use crate::verdict::Turn;
-use plan::{Ability, Plan};
-use rows::{Action, Fault, Gate as GateRow, Placed, Step, Wire};
+use plan::{Ability, Layout, Plan};
+use rows::{Action, Fault, Placed, Step, Wire};
 
 /// The wires of a step; a gate on one wire has it for both.
 pub(crate) fn wires_of(action: Action) -> (Wire, Wire)
@@ -36,21 +36,14 @@ impl Book {
         Book { plan, log }
     }
 
-    /// Lays a circuit of so many qubits at its first places on the chip that the records give, over a machine of this
-    /// ability: all gates open, every wire free from cycle 0. Or the refusal of lowest rank at its first place.
-    pub fn lay(
-        ability: &Ability,
-        wires: u8,
-        records: &[u8],
-        qubits: u8,
-        places: &[Wire],
-        gates: &[GateRow],
-    ) -> Result<Book, Fault>
+    /// Lays a circuit at its first places on a chip, over a machine of this ability: all gates open, every wire free from
+    /// cycle 0. Or the refusal of lowest rank at its first place.
+    pub fn lay(ability: &Ability, layout: Layout) -> Result<Book, Fault>
         ensures { MatchResult result
-            (λ b. LaysPlan ability.now wires records.now qubits places.now gates.now b.plan × Holds b (fresh (plan_in b.plan)))
-            (λ f. Turned (Fits ability.now wires records.now qubits places.now gates.now) f) }
+            (λ b. LaysPlan ability.now (layout_in layout.entry) b.plan × Holds b (fresh (plan_in b.plan)))
+            (λ f. Turned (Fits ability.now (layout_in layout.entry)) f) }
     {
-        let plan = Plan::lay(ability, wires, records, qubits, places, gates)?;
+        let plan = Plan::lay(ability, layout)?;
         Ok(Book::fresh(plan))
     }
 

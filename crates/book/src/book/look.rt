@@ -62,11 +62,8 @@ impl Book {
             (length l.free ≤ wire.0)
             (λ c. (wire.0 < length l.free) × (c ≡ slice_index l.free wire.0)) }
     {
-        if wire.0 < self.plan.chip().wires() {
-            Some(self.log.free[wire.0 as usize])
-        } else {
-            None
-        }
+        let wires = self.plan.chip().wires() as usize;
+        self.log.free[..wires].get(wire.0 as usize).copied()
     }
 
     /// Whether a gate is open, by its number; none past the last gate.
@@ -75,11 +72,8 @@ impl Book {
             (length (plan_in self.now.plan).gates ≤ i)
             (λ o. (i < length (plan_in self.now.plan).gates) × MatchBool o (Open l i) (¬ Open l i)) }
     {
-        if i < self.plan.circuit().count() {
-            Some(!self.log.done[i])
-        } else {
-            None
-        }
+        let count = self.plan.circuit().count();
+        self.log.done[..count].get(i).map(|done| !done)
     }
 
     /// The first gate that is not done, by the table.
@@ -89,12 +83,8 @@ impl Book {
             (λ i. (i < length (plan_in self.now.plan).gates) × (slice_index_or self.now.log.done i false ≡ false)
             × ((j : ℕ) → j < i → slice_index_or self.now.log.done j false ≡ true)) }
     {
-        for i in 0..self.plan.circuit().count() {
-            if !self.log.done[i] {
-                return Some(i);
-            }
-        }
-        None
+        let count = self.plan.circuit().count();
+        self.log.done[..count].iter().position(|done| !done)
     }
 
     /// The lowest open gate; none where no gate is open.

@@ -7,20 +7,6 @@ use crate::log::Log;
 use places::Places;
 use rows::Wire;
 
-/// No gate is done.
-fn none_done() -> [bool; 1024]
-    ensures { result ≡ replicate 1024 false }
-{
-    [false; 1024]
-}
-
-/// Every wire is free from cycle 0.
-fn all_free() -> [u32; 64]
-    ensures { result ≡ replicate 64 0 }
-{
-    [0; 64]
-}
-
 impl Log {
     /// Nothing is done or kept yet.
     pub(crate) fn fresh(places: Places) -> Log
@@ -28,12 +14,10 @@ impl Log {
         ensures tables { (result.done ≡ replicate 1024 false) × (result.free ≡ replicate 64 0) }
         ensures counts { (result.kept ≡ 0) × (result.exchanges ≡ 0) × (result.last ≡ 0) }
     {
-        let done = none_done();
-        let free = all_free();
         Log {
             places,
-            done,
-            free,
+            done: [false; 1024],
+            free: [0; 64],
             kept: 0,
             exchanges: 0,
             last: 0,
@@ -81,9 +65,7 @@ impl Log {
         ensures rest { (self.new.done ≡ self.old.done) × (self.new.free ≡ self.old.free) }
         ensures counts { (self.new.kept ≡ self.old.kept) × (self.new.exchanges ≡ self.old.exchanges + 1) × (self.new.last ≡ self.old.last) }
     {
-        let mut places = self.places;
-        places.exchange(a, b);
-        self.places = places;
+        self.places.exchange(a, b);
         self.exchanges += 1;
     }
 }

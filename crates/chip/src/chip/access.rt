@@ -20,7 +20,7 @@ impl Chip {
     pub fn coupled(&self, a: Wire, b: Wire) -> bool
         ensures { result ≡ (chart_of self.now).coupled a.0 b.0 }
     {
-        a.0 < self.wires && b.0 < self.wires && self.couplings[a.0 as usize][b.0 as usize]
+        a.0 < self.wires && b.0 < self.wires && self.couplings.rows[a.0 as usize][b.0 as usize]
     }
 
     /// The cycles that a gate of this kind lasts.
@@ -59,13 +59,9 @@ impl Chip {
             (λ w. Lowest (OneNearer (chart_of self.now) a.0 b.0) w.0) }
     {
         let here = self.distance(a, b)?;
-        for w in 0..self.wires {
-            if self.couplings[a.0 as usize][w as usize]
-                && self.distances[w as usize][b.0 as usize] + 1 == here
-            {
-                return Some(Wire(w));
-            }
-        }
-        None
+        (0..self.wires)
+            .find(|w| self.coupled(a, Wire(*w))
+                && self.distances[*w as usize][b.0 as usize] + 1 == here)
+            .map(Wire)
     }
 }

@@ -1,97 +1,77 @@
 // The chip that records give.
-ghost use Rattle.std.specs.Prelude.{◌≡◌, ℕ, ◌<◌, ◌≤◌, true, false, Err, MatchOption, MatchResult, slice_index, slice_index_or};
+ghost use Rattle.std.specs.Prelude.{◌≡◌, ℕ, ◌<◌, ◌≤◌, Some, None, Err, length, MatchResult, slice_index, slice_index_or};
 ghost use Rattle.chip.specs.Charts.{Even};
 ghost use Rattle.chip.specs.Chips.{ChipAnswer, MadeChip};
+ghost use Rattle.chip.specs.Tables.{AllGiven, FirstMissing};
 
 use crate::chip::Chip;
-use crate::reach::{distances, reach_from};
-use crate::records::read_records;
+use crate::reach::{Reach, distances};
+use crate::records::ChipRecords;
 use rows::{Fault, Refusal};
 
-/// The lowest kind, by its code, that has no duration.
-fn lacking(durations: &[u16; 13]) -> Option<usize>
-    ensures { MatchOption result
-        ((k : ℕ) → 1 ≤ k → k ≤ 12 → 1 ≤ slice_index durations.now k)
-        (λ k. (1 ≤ k) × (k ≤ 12) × (slice_index durations.now k ≡ 0) × ((q : ℕ) → 1 ≤ q → q < k → 1 ≤ slice_index durations.now q)) }
+/// The cycles of each kind at its code, or the refusal at the lowest kind that has no duration.
+fn all_given(durations: &[Option<u16>; 13]) -> Result<[u16; 13], Fault>
+    requires { length durations.now ≡ 13 }
+    ensures { MatchResult result
+        (λ cycles. AllGiven durations.now cycles)
+        (λ f. FirstMissing durations.now f) }
 {
-    for k in 1..13 {
-        if durations[k] == 0 {
-            return Some(k);
+    // A loop over the kinds' codes, not over the entries: entry 0 is no kind's.
+    let mut cycles = [0; 13];
+    for kind in 1..13 {
+        cycles[kind] = durations[kind].ok_or(Refusal::NoDuration.at(kind))?;
+    }
+    Ok(cycles)
+}
+
+impl ChipRecords<'_> {
+    /// Refuses a number of wires that is not 1 to 64, and bytes that are not by four.
+    fn even(self) -> Result<(), Fault>
+        ensures { MatchResult result
+            (λ _. Even self.entry.wires self.entry.bytes.now)
+            (λ f. MadeChip self.entry.wires self.entry.bytes.now (Err f)) }
+    {
+        if !(1..=64).contains(&self.wires) || self.bytes.len() % 4 != 0 {
+            return Err(Refusal::RaggedChip.at(0));
         }
+        Ok(())
     }
-    None
-}
 
-/// The lowest of `n` wires that is not found.
-fn missing(found: &[bool; 64], n: usize) -> Option<usize>
-    requires { n ≤ 64 }
-    ensures { MatchOption result
-        ((w : ℕ) → w < n → slice_index_or found.now w false ≡ true)
-        (λ w. (w < n) × (slice_index_or found.now w false ≡ false) × ((v : ℕ) → v < w → slice_index_or found.now v false ≡ true)) }
-{
-    for w in 0..n {
-        if !found[w] {
-            return Some(w);
+    /// The chip that the records give, or the first refusal.
+    fn build(self) -> Result<Chip, Fault>
+        requires { Even self.wires self.bytes.now }
+        ensures { ChipAnswer self.entry.wires self.entry.bytes.now result }
+    {
+        let draft = self.read()?;
+        let durations = all_given(&draft.durations)?;
+        let wires = self.wires as usize;
+        if let Some(place) = Reach::from(&draft.couplings, 0).missing(wires) {
+            return Err(Refusal::Parted.at(place));
         }
+        let distances = distances(&draft.couplings, wires);
+        Ok(Chip {
+            wires: self.wires,
+            couplings: draft.couplings,
+            durations,
+            distances,
+        })
     }
-    None
-}
 
-/// Refuses a number of wires that is not 1 to 64, and bytes that are not by four.
-fn even(wires: u8, records: &[u8]) -> Result<(), Fault>
-    ensures { MatchResult result (λ _. Even wires records.now) (λ f. MadeChip wires records.now (Err f)) }
-{
-    if wires < 1 || wires > 64 || records.len() % 4 != 0 {
-        return Err(Fault {
-            refusal: Refusal::RaggedChip,
-            place: 0,
-        });
+    /// The same, with what holds of every answer.
+    fn chip(self) -> Result<Chip, Fault>
+        requires { Even self.wires self.bytes.now }
+        ensures { MadeChip self.entry.wires self.entry.bytes.now result }
+    {
+        self.build()
     }
-    Ok(())
-}
-
-/// The chip that records give, or the first refusal.
-fn build(wires: u8, records: &[u8]) -> Result<Chip, Fault>
-    requires { Even wires records.now }
-    ensures { ChipAnswer wires records.now result }
-{
-    let draft = read_records(wires, records)?;
-    if let Some(kind) = lacking(&draft.durations) {
-        return Err(Fault {
-            refusal: Refusal::NoDuration,
-            place: kind,
-        });
-    }
-    let first = reach_from(&draft.couplings, 0);
-    if let Some(wire) = missing(&first.found, wires as usize) {
-        return Err(Fault {
-            refusal: Refusal::Parted,
-            place: wire,
-        });
-    }
-    let rows = distances(&draft.couplings, wires as usize);
-    Ok(Chip {
-        wires,
-        couplings: draft.couplings,
-        durations: draft.durations,
-        distances: rows,
-    })
-}
-
-/// The same, with what holds of every answer.
-fn chip_of(wires: u8, records: &[u8]) -> Result<Chip, Fault>
-    requires { Even wires records.now }
-    ensures { MadeChip wires records.now result }
-{
-    build(wires, records)
 }
 
 impl Chip {
-    /// The chip of so many wires that the records give, four bytes each, or the refusal of lowest rank at its first place.
-    pub fn new(wires: u8, records: &[u8]) -> Result<Chip, Fault>
-        ensures { MadeChip wires records.now result }
+    /// The chip that the records give, or the refusal of lowest rank at its first place.
+    pub fn new(records: ChipRecords) -> Result<Chip, Fault>
+        ensures { MadeChip records.entry.wires records.entry.bytes.now result }
     {
-        even(wires, records)?;
-        chip_of(wires, records)
+        records.even()?;
+        records.chip()
     }
 }

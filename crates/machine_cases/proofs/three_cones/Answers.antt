@@ -1,4 +1,4 @@
-use Rattle.std.proofs.Common.{◌≡◌, ℕ, [], ◌∷◌, ap, ◌∙◌}
+use Rattle.std.proofs.Common.{◌≡◌, ℕ, ap, ◌∙◌}
 use Rattle.rows.specs.declared.kind.Kind.{Kind}
 use Rattle.rows.specs.Steps.{two}
 use Rattle.machine.specs.Local.{Cells, local}
@@ -11,4 +11,4 @@ pub returns : goal.returns
 returns c =
     let after : cone_means c.gate-2.new.self ≡ (local cone_rule).gated (two Kind.Cnot 0 1 2) ((local cone_rule).gated (two Kind.Cnot 0 0 1) (own_wires 3)) =
     c.gate-2.ensures ∙ ap ((local cone_rule).gated (two Kind.Cnot 0 1 2)) (c.gate.ensures ∙ ap ((local cone_rule).gated (two Kind.Cnot 0 0 1)) c.fresh-c.ensures.made) in
-    (λ i. c.read.ensures i ∷ c.read-2.ensures i ∷ c.read-3.ensures i ∷ []) ∙ ap (λ (u : Cells ℕ). readings (local cone_rule) 3 u) after
+    c.read_wires.ensures ∙ ap (λ (u : Cells ℕ). readings (local cone_rule) 3 u) after

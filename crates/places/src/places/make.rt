@@ -1,5 +1,5 @@
 // First places, from a list of wires.
-ghost use Rattle.std.specs.Prelude.{◌≡◌, ℕ, ◌+◌, ◌<◌, ◌≤◌, [], ◌∷◌, ◌++◌, length, MatchBool, MatchResult};
+ghost use Rattle.std.specs.Prelude.{◌≡◌, ℕ, ◌+◌, ◌<◌, ◌≤◌, [], ◌∷◌, ◌++◌, length, MatchOption, MatchResult};
 ghost use Rattle.std.specs.List.{range_with_len};
 ghost use Rattle.chip.specs.Chips.{chart_of};
 ghost use Rattle.places.specs.Placing.{places_of, numbers, Lays, Misplaced, Taken};
@@ -12,21 +12,7 @@ use rows::{Fault, Refusal, Wire};
 fn counted() -> [u8; 64]
     ensures { result ≡ range_with_len 0 64 }
 {
-    let mut table = [0; 64];
-    for i in 0..64u8 {
-        table[i as usize] = i;
-    }
-    table
-}
-
-/// The refusal of bad places, at a qubit.
-fn misplaced(place: usize) -> Fault
-    ensures { result ≡ record { refusal = Refusal.BadPlaces; place = place } }
-{
-    Fault {
-        refusal: Refusal::BadPlaces,
-        place,
-    }
+    std::array::from_fn(|entry| entry as u8)
 }
 
 impl Places {
@@ -46,25 +32,25 @@ impl Places {
         }
     }
 
-    /// Places one qubit more. Answers whether the wire is one of the chip's that holds no qubit; else nothing changes.
-    fn place(&mut self, wire: Wire) -> bool
+    /// Places one qubit more; none where the wire is not one of the chip's that hold no qubit, and then nothing changes.
+    fn place(&mut self, wire: Wire) -> Option<()>
         ensures wires { self.new.wires ≡ self.old.wires }
-        ensures placed { MatchBool result
-            ((self.new.qubits ≡ self.old.qubits + 1) × (places_of self.new ≡ places_of self.old ++ wire.0 ∷ []))
-            (Taken self.old wire.0) }
-        ensures free { MatchBool result (¬ Taken self.old wire.0) (self.new ≡ self.old) }
+        ensures placed { MatchOption result
+            (Taken self.old wire.0)
+            (λ _. (self.new.qubits ≡ self.old.qubits + 1) × (places_of self.new ≡ places_of self.old ++ wire.0 ∷ [])) }
+        ensures free { MatchOption result (self.new ≡ self.old) (λ _. ¬ Taken self.old wire.0) }
     {
         if wire.0 >= self.wires {
-            return false;
+            return None;
         }
         let entry = self.on[wire.0 as usize];
         if entry < self.qubits {
-            return false;
+            return None;
         }
         let next = Wire(self.at[self.qubits as usize]);
         self.qubits += 1;
         self.exchange(next, wire);
-        true
+        Some(())
     }
 
     /// Places the qubits one after the other, up to the first that cannot be placed.
@@ -75,10 +61,8 @@ impl Places {
             (λ f. Misplaced (chart_of chip.now).wires (length places.now) (numbers places.now) f) }
     {
         let mut table = Places::empty(chip);
-        for q in 0..places.len() {
-            if !table.place(places[q]) {
-                return Err(misplaced(q));
-            }
+        for (q, wire) in places.iter().enumerate() {
+            table.place(*wire).ok_or(Refusal::BadPlaces.at(q))?;
         }
         Ok(table)
     }
@@ -89,11 +73,11 @@ impl Places {
             (λ s. Lays (chart_of chip.now).wires qubits (numbers places.now) s)
             (λ f. Misplaced (chart_of chip.now).wires qubits (numbers places.now) f) }
     {
-        if qubits < 1 || qubits > 64 {
-            return Err(misplaced(0));
+        if !(1..=64).contains(&qubits) {
+            return Err(Refusal::BadPlaces.at(0));
         }
         if places.len() != qubits as usize {
-            return Err(misplaced(qubits as usize));
+            return Err(Refusal::BadPlaces.at(qubits as usize));
         }
         Places::place_all(chip, places)
     }

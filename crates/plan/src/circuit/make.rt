@@ -12,14 +12,11 @@ impl Circuit {
         ensures { MatchResult result (λ c. Reads qubits rows.now c) (λ f. Miswritten qubits rows.now f) }
     {
         let mut gates = [Operation::One(Kind::X, 0, Logical(0)); 1024];
-        for i in 0..rows.len() {
+        for (i, row) in rows.iter().enumerate() {
             if i >= 1024 {
                 return Err(Refusal::BadGate.at(1024));
             }
-            let Some(gate) = rows[i].decode(qubits) else {
-                return Err(Refusal::BadGate.at(i));
-            };
-            gates[i] = gate;
+            gates[i] = row.decode(qubits).ok_or(Refusal::BadGate.at(i))?;
         }
         Ok(Circuit {
             gates,

@@ -23,11 +23,7 @@ impl Circuit {
             (length (gates_in self.now) ≤ i)
             (λ g. (i < length (gates_in self.now)) × (gate_at g ≡ number (gates_in self.now) i)) }
     {
-        if i < self.count {
-            Some(self.gates[i])
-        } else {
-            None
-        }
+        self.gates[..self.count].get(i).copied()
     }
 
     /// The first gate of a kind that is not known.
@@ -37,12 +33,9 @@ impl Circuit {
             (λ i. (i < length (gates_in self.now)) × (known ability.now.kinds (kind_of (number (gates_in self.now) i)) ≡ false)
             × ((j : ℕ) → j < i → known ability.now.kinds (kind_of (number (gates_in self.now) j)) ≡ true)) }
     {
-        for i in 0..self.count {
-            if !ability.knows(self.gates[i].kind()) {
-                return Some(i);
-            }
-        }
-        None
+        self.gates[..self.count]
+            .iter()
+            .position(|gate| !ability.knows(gate.kind()))
     }
 
     /// The first gate that is not done and has a qubit in common with this one.
@@ -51,12 +44,10 @@ impl Circuit {
             (NoneSharing (gates_in self.now) done.now (gate_at gate) self.now.count)
             (λ i. FirstSharing (gates_in self.now) done.now (gate_at gate) i) }
     {
-        for i in 0..self.count {
-            if !done[i] && self.gates[i].shares(gate) {
-                return Some(i);
-            }
-        }
-        None
+        self.gates[..self.count]
+            .iter()
+            .zip(done)
+            .position(|(other, done)| !done && other.shares(gate))
     }
 
     /// The number of this gate, if it is one of the circuit's that is not done, and no earlier gate that is not done has a
@@ -67,10 +58,6 @@ impl Circuit {
             (λ i. NextOf (gates_in self.now) done.now (gate_at gate) i) }
     {
         let i = self.first_sharing(done, gate)?;
-        if self.gates[i].is(gate) {
-            Some(i)
-        } else {
-            None
-        }
+        self.gates[i].is(gate).then_some(i)
     }
 }

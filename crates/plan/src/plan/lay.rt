@@ -1,39 +1,28 @@
 // The plan of a layout, and what it answers.
-ghost use Rattle.std.specs.Prelude.{◌≡◌, ℕ, ◌≤◌, MatchResult};
-ghost use Rattle.rows.specs.Refusals.{Accepted, Turned};
-ghost use Rattle.chip.specs.Chips.{chart_of};
-ghost use Rattle.places.specs.Placing.{numbers};
-ghost use Rattle.sheet.specs.Refusals.{LayFits};
-ghost use Rattle.sheet.specs.Sheets.{unlaid, plan_of};
-ghost use Rattle.plan.specs.Abilities.{known};
-ghost use Rattle.plan.specs.Laying.{plan_in, Fits, LaysPlan};
+ghost use Rattle.std.specs.Prelude.{◌≡◌, MatchResult};
+ghost use Rattle.rows.specs.Refusals.{Turned};
+ghost use Rattle.plan.specs.Laying.{layout_in, Fits, LaysPlan};
 
 use crate::ability::Ability;
 use crate::circuit::Circuit;
+use crate::layout::Layout;
 use crate::plan::Plan;
 use chip::Chip;
 use places::Places;
-use rows::{Fault, Gate as GateRow, Refusal, Wire};
+use rows::{Fault, Refusal};
 
 impl Plan {
-    /// Lays a circuit of so many qubits at its first places on the chip that the records give, over a machine of this
-    /// ability; or the refusal of lowest rank at its first place.
-    pub fn lay(
-        ability: &Ability,
-        wires: u8,
-        records: &[u8],
-        qubits: u8,
-        places: &[Wire],
-        gates: &[GateRow],
-    ) -> Result<Plan, Fault>
+    /// Lays a circuit at its first places on a chip, over a machine of this ability; or the refusal of lowest rank at its
+    /// first place.
+    pub fn lay(ability: &Ability, layout: Layout) -> Result<Plan, Fault>
         ensures { MatchResult result
-            (λ p. LaysPlan ability.now wires records.now qubits places.now gates.now p)
-            (λ f. Turned (Fits ability.now wires records.now qubits places.now gates.now) f) }
+            (λ p. LaysPlan ability.now (layout_in layout.entry) p)
+            (λ f. Turned (Fits ability.now (layout_in layout.entry)) f) }
     {
-        let chip = Chip::new(wires, records)?;
-        let first = Places::lay(&chip, qubits, places)?;
-        let circuit = Circuit::of(qubits, gates)?;
-        if ability.width() < wires {
+        let chip = Chip::new(layout.chip)?;
+        let first = Places::lay(&chip, layout.qubits, layout.places)?;
+        let circuit = Circuit::of(layout.qubits, layout.gates)?;
+        if ability.width() < layout.chip.wires {
             return Err(Refusal::Narrow.at(ability.width() as usize));
         }
         if let Some(i) = circuit.unknown(ability) {

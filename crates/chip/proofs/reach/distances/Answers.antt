@@ -1,11 +1,10 @@
-use Rattle.std.proofs.Common.{arith, length-set}
+use Rattle.std.proofs.Common.{ℕ, List, [], ◌<◌, arith, rules}
 use Rattle.chip.specs.Tables.{Distances}
-use Rattle.chip.proofs.Reaching.{rows_more}
+use Rattle.chip.proofs.Filled.{filled}
 use Rattle.chip.proofs.reach.distances.Goals as goal
 
-pub loop-a-preserved : goal.loop-a-preserved
-loop-a-preserved c = (
-  rows_more (Distances c.args.table.now) c.loop-a.rows c.loop-a.a c.reach_from.result.steps (omega (arith, c.loop-a.invariant.1))
-      c.loop-a.invariant.0 c.reach_from.ensures.distances,
-  simp length-set c.loop-a.invariant.1,
-)
+pub returns : goal.returns
+returns c = λ a l.
+    let t = c.args.couplings.now.rows in
+    let n = c.args.n in
+    filled _ _ (λ (i : ℕ) (y : List ℕ). i < n → Distances t i y) (λ i y q k. search rules) c.from_fn.result 64 c.from_fn.ensures.items a [] (omega arith) l

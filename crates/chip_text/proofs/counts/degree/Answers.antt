@@ -1,14 +1,15 @@
-use Rattle.std.proofs.Common.{sym, ◌∙◌, arith}
+use Rattle.std.proofs.Common.{◌∙◌, rules, tests, ap, ℕ, arith}
+use Rattle.std.proofs.lemmas.Iterator.{YieldsList-from_range}
+use Rattle.std.proofs.lemmas.Iterator.Consumers.{YieldsList-from_filter, count_from_yields_List}
 use Rattle.chip.specs.Chips.{chart_of}
-use Rattle.chip_text.proofs.Steps.{count_le, count_yes, count_no}
+use Rattle.chip_text.specs.Report.{count}
+use Rattle.chip_text.proofs.Steps.{count_range}
 use Rattle.chip_text.proofs.counts.degree.Goals as goal
-use Rattle.chip_text.proofs.counts.degree.Goals.{then-coupled, else-coupled}
 
-pub overflow_add-count : goal.overflow_add-count
-overflow_add-count c = omega (arith, count_le ((chart_of c.args.chip.now).coupled c.args.a) c.loop-b.b)
-
-pub loop-b-preserved : goal.loop-b-preserved
-loop-b-preserved c = elim c.if-coupled.branch [
-  | then-coupled w ↦ w.count-is ∙ count_yes ((chart_of c.args.chip.now).coupled c.args.a) c.loop-b.b c.loop-b.count c.loop-b.invariant (sym c.coupled.ensures ∙ w.if-coupled.true)
-  | else-coupled w ↦ w.count-is ∙ count_no ((chart_of c.args.chip.now).coupled c.args.a) c.loop-b.b c.loop-b.count c.loop-b.invariant (sym c.coupled.ensures ∙ w.if-coupled.false)
-]
+pub returns : goal.returns
+returns c =
+    let n = c.wires.result in
+    let p = (chart_of c.args.chip.now).coupled c.args.a in
+    count_from_yields_List c.filter.result c.count.result c.count.ensures.ran
+    (YieldsList-from_filter _ p (YieldsList-from_range 0 n n c.filter.ensures.source (omega arith)) c.filter.ensures.closure (λ x r q k. search (rules, tests)))
+    ∙ count_range p n ∙ ap (λ (m : ℕ). count m p) c.wires.ensures.count

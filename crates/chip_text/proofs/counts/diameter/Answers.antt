@@ -1,15 +1,15 @@
-use Rattle.std.proofs.Common.{◌≡◌, ℕ, subst, arith}
+use Rattle.std.proofs.Common.{ℕ, max, ◌∙◌, rules, tests, ap, arith}
+use Rattle.std.proofs.lemmas.Iterator.{YieldsList-from_range}
+use Rattle.std.proofs.lemmas.Iterator.Consumers.{fold_from_yields_List}
 use Rattle.chip.specs.Chips.{chart_of}
 use Rattle.chip_text.specs.Report.{largest}
-use Rattle.chip_text.proofs.Steps.{largest_more}
+use Rattle.chip_text.specs.Within.{within, longest}
+use Rattle.chip_text.proofs.Steps.{range, largest_range, largest_same, within_is}
 use Rattle.chip_text.proofs.counts.diameter.Goals as goal
-
-pub loop-a-preserved : goal.loop-a-preserved
-loop-a-preserved c far h =
-    largest_more (λ a. largest (chart_of c.args.chip.now).wires (far a)) c.loop-a.a c.loop-a.most c.farthest.result c.larger-most.result c.larger-most.ensures (c.loop-a.invariant far h)
-    (c.farthest.ensures far h (omega arith))
 
 pub returns : goal.returns
 returns c far h =
-    let e : c.loop-a.a ≡ (chart_of c.args.chip.now).wires = omega arith in
-    subst (λ (n : ℕ). c.loop-a.most ≡ largest n (λ a. largest (chart_of c.args.chip.now).wires (far a))) e (c.loop-a.invariant far h)
+    let n = (chart_of c.args.chip.now).wires in
+    let f : ℕ → ℕ = longest n far in
+    fold_from_yields_List _ (λ most k. max most (f k)) 0 c.fold.result c.fold.ensures.ran (YieldsList-from_range 0 n n (ap range c.wires.ensures.count) (omega arith)) (λ a x b q k. search (rules, tests))
+    ∙ largest_range f n ∙ largest_same f (λ a. largest n (far a)) n (λ a l. largest_same (within n far a) (far a) n (λ b m. within_is n far a b l m))

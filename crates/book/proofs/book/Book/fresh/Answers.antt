@@ -1,4 +1,4 @@
-use Rattle.std.proofs.Common.{◌≡◌, refl, ap, ◌∙◌}
+use Rattle.std.proofs.Common.{◌≡◌, ap, ◌∙◌}
 use mathlib.Core.Logic.{∥∥₁_map}
 use Rattle.places.specs.declared.places.Places.{Places}
 use Rattle.sheet.specs.Sheets.{fresh}
@@ -16,10 +16,7 @@ invariant_of-result c =
       agrees = ∥∥₁_map c.args.plan.laid (λ laid. (fresh (plan_in c.args.plan), fresh_agrees c.args.plan c.fresh-log.result laid same e.tables.0 e.tables.1 e.counts.0 e.counts.1 e.counts.2));
     }
 
-pub returns : goal.returns
-returns c =
+pub returns-clause-log : goal.returns-clause-log
+returns-clause-log c = λ laid.
     let e = c.fresh-log.ensures in
-    record {
-      plan = refl;
-      log = λ laid. fresh_agrees c.args.plan c.fresh-log.result laid (e.places ∙ c.first.ensures) e.tables.0 e.tables.1 e.counts.0 e.counts.1 e.counts.2;
-    }
+    fresh_agrees c.args.plan c.fresh-log.result laid (e.places ∙ c.first.ensures) e.tables.0 e.tables.1 e.counts.0 e.counts.1 e.counts.2

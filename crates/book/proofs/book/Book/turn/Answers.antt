@@ -4,7 +4,7 @@ use Rattle.rows.specs.declared.row.Action.{Action}
 use Rattle.rows.specs.Steps.{swap, step_at, gate_at}
 use Rattle.plan.specs.declared.circuit.Circuit.{Circuit}
 use Rattle.plan.specs.Circuits.{gates_in, NextOf}
-use Rattle.book.proofs.Facts.{turn_none, turn_not, turn_is}
+use Rattle.book.proofs.Facts.{turn_none, turn_not}
 use Rattle.book.proofs.book.Book.turn.Goals as goal
 
 -- only an exchange is a swap
@@ -20,8 +20,3 @@ pub returns-in_err-i : goal.returns-in_err-i
 returns-in_err-i c l h = rw c.from_residual-in_err-i.ensures
     (turn_not c.args.self.now l h (step_at c.args.action) c.in_ok-gate.gate c.in_ok-gate.ensures
     (subst (λ (x : Circuit). (i : ℕ) → ¬ NextOf (gates_in x) c.args.self.now.log.done (gate_at c.in_ok-gate.gate) i) c.circuit.ensures c.in_err-i.ensures))
-
-pub returns : goal.returns
-returns c l h =
-    turn_is c.args.self.now l h (step_at c.args.action) c.in_ok-gate.gate c.in_ok-i.i c.in_ok-gate.ensures
-    (subst (λ (x : Circuit). NextOf (gates_in x) c.args.self.now.log.done (gate_at c.in_ok-gate.gate) c.in_ok-i.i) c.circuit.ensures c.in_ok-i.ensures)

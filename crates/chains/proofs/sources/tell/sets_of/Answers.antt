@@ -10,5 +10,5 @@ pub returns : goal.returns
 returns c gs d few =
     let n = c.args.qubits in
     let same : min n 64 ≡ n = omega arith in
-    let causal = subst (λ k. Causal k (cone_means c.fresh-cone.result)) same c.fresh-cone.ensures.causal in
+    let causal = subst (λ k. Causal k (cone_means c.fresh-cone.result)) same c.fresh-cone.ensures.fresh in
     record { sets = λ q lt. record { holds = λ j. subst (λ u. In j ((local cone_rule).reads u q) ↔ Source n gs q j) (sym (c.play.ensures n gs d)) (causal gs j q lt) } }

@@ -1,37 +1,18 @@
-use Rattle.std.proofs.Common.{ap, ◌∙◌, arith}
+use Rattle.std.proofs.Common.{ap, ◌∙◌, arith, sym}
 use Rattle.chip.specs.Charts.{Four, couples, lasts, amount}
-use Rattle.chip.proofs.Reading.{record_bytes, read_coupling, read_duration, twice_bad, neither_bad}
+use Rattle.chip.proofs.Reading.{read_coupling, read_duration}
 use Rattle.chip.proofs.records.Draft.read.Goals as goal
 
-pub returns-then-self-kind-ne0 : goal.returns-then-self-kind-ne0
-returns-then-self-kind-ne0 c =
-    let s = c.args.self.now in
-    let bs = c.args.records.now in
-    let is = record_bytes bs c.args.i c.requires.within in
-    let e = c.in-Duration.ensures in
-    twice_bad c.args.wires bs c.args.i s.couplings s.durations c.requires.before c.requires.within (ap lasts is ∙ e.0) c.in-Duration.kind
-    (ap (λ (r : Four). r.second) is ∙ e.1) c.if-self-kind-ne0.true
-
 pub returns-in-Coupling : goal.returns-in-Coupling
-returns-in-Coupling c =
+returns-in-Coupling c = λ bs i l is before.
+    let e = rw c.in-Coupling.is at c.in_ok-a.ensures in
     let s = c.args.self.now in
-    let bs = c.args.records.now in
-    let is = record_bytes bs c.args.i c.requires.within in
-    let e = c.in-Coupling.ensures in
-    read_coupling c.args.wires bs c.args.i s.couplings s.durations c.requires.before c.requires.within (ap (couples c.args.wires) is ∙ e.0)
-    c.in-Coupling.a.0 c.in-Coupling.b.0 (ap (λ (r : Four). r.second) is ∙ e.1) (ap (λ (r : Four). r.third) is ∙ e.2) c.couple.new.table c.couple.ensures
+    read_coupling c.args.wires bs i s.couplings.rows s.durations before l (ap (couples c.args.wires) is ∙ e.0)
+    c.in-Coupling.a.0 c.in-Coupling.b.0 (ap (λ (r : Four). r.second) is ∙ e.1) (ap (λ (r : Four). r.third) is ∙ e.2) c.couple.new.self.rows c.couple.ensures
 
-pub returns-else-self-kind-ne0 : goal.returns-else-self-kind-ne0
-returns-else-self-kind-ne0 c =
+pub returns-else-is_some : goal.returns-else-is_some
+returns-else-is_some c = λ bs i l is before.
+    let e = rw c.in-Duration.is at c.in_ok-a.ensures in
     let s = c.args.self.now in
-    let bs = c.args.records.now in
-    let is = record_bytes bs c.args.i c.requires.within in
-    let e = c.in-Duration.ensures in
-    read_duration c.args.wires bs c.args.i s.couplings s.durations c.requires.before c.requires.within (ap lasts is ∙ e.0) c.in-Duration.kind c.in-Duration.cycles
-    (ap (λ (r : Four). r.second) is ∙ e.1) (ap amount is ∙ e.2) (omega arith) c.if-self-kind-ne0.false
-
-pub returns-in-Neither : goal.returns-in-Neither
-returns-in-Neither c =
-    let is = record_bytes c.args.records.now c.args.i c.requires.within in
-    let e = c.in-Neither.ensures in
-    neither_bad c.args.wires c.args.records.now c.args.i (ap (couples c.args.wires) is ∙ e.0) (ap lasts is ∙ e.1)
+    read_duration c.args.wires bs i s.couplings.rows s.durations before l (ap lasts is ∙ e.0) c.in-Duration.kind c.in-Duration.cycles
+    (ap (λ (r : Four). r.second) is ∙ e.1) (ap amount is ∙ e.2) (omega arith) (sym c.is_some.ensures ∙ c.if-is_some.false)
