@@ -1,9 +1,11 @@
-//! Tests of the replies of the program `check`, worked from the rules.
+//! Tests of the replies of the program `check`, and of the lines of steps, worked from the rules.
 
 #![tactic(auto)]
 
 #[cfg(test)]
 mod replies;
+#[cfg(test)]
+mod steps;
 #[cfg(test)]
 mod stops;
 #[cfg(test)]

@@ -61,6 +61,6 @@ impl StepKind {
     pub(crate) fn has_k(self) -> bool
         ensures { result ≡ has_k (step_code self) }
     {
-        self.code() == 11
+        matches!(self, StepKind::Gate(Kind::Crk))
     }
 }

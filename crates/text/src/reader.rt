@@ -27,19 +27,8 @@ fn read_heading(lexer: &mut Lexer) -> Result<u8, Fault>
         (λ n. Headed (left lexer.old) n (left lexer.new))
         (λ f. NotHeaded (left lexer.old) f) }
 {
-    let Some(word) = lexer.next() else {
-        return Err(Fault {
-            refusal: Refusal::NoCircuit,
-            place: 0,
-        });
-    };
-    match qubits_of(word.bytes) {
-        Some(n) => Ok(n),
-        None => Err(Fault {
-            refusal: Refusal::NoCircuit,
-            place: word.line,
-        }),
-    }
+    let word = lexer.next().ok_or(Refusal::NoCircuit.at(0))?;
+    qubits_of(word.bytes).ok_or(Refusal::NoCircuit.at(word.line))
 }
 
 // Writes the gates of the statements that are left into the front of a table, at most `room`, and answers how many.
