@@ -2,7 +2,7 @@
 use Rattle.std.proofs.Common.{◌≡◌, ℕ, ◌≤◌, Bool, true, false, cond, ◌&&◌, eqb, ltb, [], ◌++◌, codes, decimal, sym, refl, ap, ◌∙◌, arith}
 use Rattle.std.proofs.lemmas.Bool.Decides.{nat_tests}
 use Rattle.rows.specs.declared.kind.Kind.{Kind}
-use Rattle.rows.specs.Kinds.{code, double, turns, k_suits}
+use Rattle.rows.specs.Kinds.{double, turns, k_suits}
 use Rattle.lines.specs.Grammar.{ending}
 
 -- crk: k is 1 to 31, after a comma

@@ -22,10 +22,7 @@ fn is_within(gate: Written, n: u8) -> bool
 fn is_doubled(gate: Written) -> bool
     ensures { MatchBool result (Doubled (gate_in gate)) (¬ Doubled (gate_in gate)) }
 {
-    match gate {
-        Written::One(_, _, _) => false,
-        Written::Two(_, _, a, b) => a == b,
-    }
+    matches!(gate, Written::Two(_, _, a, b) if a == b)
 }
 
 // The gate on qubits of a circuit of n.

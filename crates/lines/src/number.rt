@@ -24,10 +24,7 @@ fn value_of(digits: &[u8], limit: u32) -> Option<u32>
 fn has_leading_zero(digits: &[u8]) -> bool
     ensures { MatchBool result ((1 < length digits.now) × (slice_index digits.now 0 ≡ 48)) (slice_index digits.now 0 ≡ 48 → length digits.now ≤ 1) }
 {
-    match digits {
-        [b'0', _, ..] => true,
-        _ => false,
-    }
+    matches!(digits, [b'0', _, ..])
 }
 
 /// The number at the front of `s`, if it is at most `limit`, and what comes after it.

@@ -7,6 +7,7 @@ use crate::place::{Logical, Wire};
 use crate::placed::{Placed, two_below};
 
 /// A gate row as it comes, right or wrong: a kind's code, its qubits (the second is 0 for a one-qubit kind), and k.
+// The kind is a byte: rows are given as bytes, and a row that is no gate has to be expressible, so that it can be refused.
 #[derive(Clone, Copy, Debug, PartialEq, Eq)]
 pub struct Gate {
     pub kind: u8,
@@ -16,6 +17,7 @@ pub struct Gate {
 }
 
 /// A step row as it comes, right or wrong: as a gate row, on wires, with its start cycle. Code 12 is the exchange.
+// A byte for the kind, as in a gate row. It is flat, as it is given: a gate row at wires inside would make no call shorter.
 #[derive(Clone, Copy, Debug, PartialEq, Eq)]
 pub struct Step {
     pub kind: u8,

@@ -38,6 +38,7 @@ fn read_gates(lexer: Lexer, qubits: u8, room: usize, table: &mut [Gate]) -> Resu
         (λ count. Filled qubits room (left lexer.entry) count table.old table.new)
         (λ f. FirstRefused qubits room (left lexer.entry) f) }
 {
+    // Counted by hand, not by enumerate: the number of gates is the answer, and each gate needs to know how many rows are left.
     let mut count = 0;
     for word in lexer {
         table[count] = gate_of(word.bytes, word.line, qubits, room - count)?;
