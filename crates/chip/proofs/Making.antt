@@ -7,7 +7,7 @@ use Rattle.rows.specs.declared.refusal.Refusal.{Refusal}
 use Rattle.rows.specs.Refusals.{Accepted, Turned}
 use Rattle.chip.specs.Charts.{Four, records, couples, joins_two, joins, lasts, amount, duration, chart, Walk, Distance, Even, ChipFits, Inside, Symmetric, Irreflexive}
 use Rattle.rows.specs.declared.refusal.Fault.{Fault}
-use Rattle.chip.specs.Tables.{Flags, flag_at, number_at, chart_at, links, given, Read, AllGiven, FirstMissing, IsFound, Distances, AllReached}
+use Rattle.chip.specs.Tables.{flag_at, number_at, chart_at, links, given, Read, AllGiven, FirstMissing, IsFound, Distances, AllReached}
 use Rattle.chip.proofs.Reading.{duration_outside, given_none, given_value}
 use Rattle.chip.proofs.Reaching.{some_value, found_value}
 use Rattle.chip.proofs.Refusing.{turned_9, turned_10, accepted}
@@ -67,7 +67,7 @@ first_missing ds cycles k f l m before none e = subst (FirstMissing ds) (sym e) 
 })
 
 -- the tables of all records
-module _ (n : ℕ) (bs : List ℕ) (cs : Flags) (ds : List (Option ℕ)) (all : Read n bs (length (records bs)) cs ds) where
+module _ (n : ℕ) (bs : List ℕ) (cs : List (List Bool)) (ds : List (Option ℕ)) (all : Read n bs (length (records bs)) cs ds) where
   whole : take (length (records bs)) (records bs) ≡ records bs
   whole = take_all (length (records bs)) (records bs) (omega arith)
 

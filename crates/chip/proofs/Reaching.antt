@@ -1,10 +1,10 @@
 -- Breadth first: what is found, a round, and the end.
-use Rattle.std.proofs.Common.{◌≡◌, ℕ, zero, suc, ◌+◌, ◌<◌, ◌≤◌, true, false, cond, List, length, get_or, set, replicate, Some, None, Option, is_some, sym, refl, ap, ◌∙◌, subst, ⊎_elim, arith}
+use Rattle.std.proofs.Common.{◌≡◌, ℕ, zero, suc, ◌+◌, ◌<◌, ◌≤◌, Bool, true, false, cond, List, length, get_or, set, replicate, Some, None, Option, is_some, sym, refl, ap, ◌∙◌, subst, ⊎_elim, arith}
 use Rattle.std.proofs.lemmas.List.{get_or-set_same, get_or-set_other, get_or_past}
 use Rattle.std.proofs.lemmas.List.Sums.{sum_by-set}
 use Rattle.std.proofs.lemmas.Bool.{cases_eq, cases_lt, both_ways}
 use Rattle.chip.specs.Charts.{Walk, Distance, Inside}
-use Rattle.chip.specs.Tables.{Flags, flag_at, links, Found, IsFound, size, Level, Grown, AllReached, Distances}
+use Rattle.chip.specs.Tables.{flag_at, links, Found, IsFound, size, Level, Grown, AllReached, Distances}
 use Rattle.chip.proofs.Walks.{snoc, unsnoc, moved}
 
 abbrev tally : Option ℕ → ℕ
@@ -35,7 +35,7 @@ found_same : (steps : List (Option ℕ)) (v j k : ℕ) → Found steps v j → F
 found_same steps v j k p q = cc
 
 -- a whole round
-module _ (t : Flags) (inside : Inside (links t)) (a d : ℕ) (steps : List (Option ℕ)) (level : Level t a d steps)
+module _ (t : List (List Bool)) (inside : Inside (links t)) (a d : ℕ) (steps : List (Option ℕ)) (level : Level t a d steps)
     (steps' : List (Option ℕ)) (g : Grown t d steps steps')
     (covered : (u v : ℕ) → u < 64 → v < 64 → Found steps u d → flag_at t u v ≡ true → IsFound steps' v) where
   -- a wire coupled with a found one is found now
@@ -131,7 +131,7 @@ blank_row (suc n) zero x = refl
 blank_row (suc n) (suc k) x = blank_row n k x
 
 -- the first level: the wire itself
-module _ (t : Flags) (a : ℕ) (blank : List (Option ℕ)) (lt : a < length blank) (none : (v : ℕ) → get_or blank v None ≡ None) where
+module _ (t : List (List Bool)) (a : ℕ) (blank : List (Option ℕ)) (lt : a < length blank) (none : (v : ℕ) → get_or blank v None ≡ None) where
   none_found : (v k : ℕ) → Found blank v k → ⊥
   none_found v k h = both_ways false refl (sym (ap (λ (o : Option ℕ). is_some o) (none v)) ∙ is_found blank v k h)
 
@@ -161,7 +161,7 @@ module _ (t : Flags) (a : ℕ) (blank : List (Option ℕ)) (lt : a < length blan
       omega arith
 
 -- a row of the numbers of all that is reached
-pub row_distances : (t : Flags) (a : ℕ) (steps : List (Option ℕ)) (row : List ℕ) → AllReached t a steps
+pub row_distances : (t : List (List Bool)) (a : ℕ) (steps : List (Option ℕ)) (row : List ℕ) → AllReached t a steps
     → ((v d : ℕ) → Found steps v d → get_or row v 0 ≡ d) → Distances t a row
 row_distances t a steps row all same v k w =
     let p = found_value steps v (all.all v k w) in

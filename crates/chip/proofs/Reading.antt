@@ -5,7 +5,7 @@ use Rattle.std.proofs.lemmas.Bool.{and_parts, cases_eq, cases_lt, cases_Bool, eq
 use Rattle.std.proofs.lemmas.Bool.Decides.{nat_tests}
 use Rattle.chip.specs.Charts.{Four, four, records, couples, joins_two, lasts, amount, joins, duration, record_number, GoodRecord}
 use Rattle.std.specs.Simd.{first_chunks}
-use Rattle.chip.specs.Tables.{Flags, flag_at, given, Read}
+use Rattle.chip.specs.Tables.{flag_at, given, Read}
 use Rattle.chip.specs.Entries.{four_in}
 use Rattle.chip.proofs.Reaching.{blank_row, none_value}
 
@@ -40,7 +40,7 @@ table_with t a b l row h x y = ⊎_elim
     ∙ sym (ap (λ (s : Bool). flag_at t x y || (s && eqb b y)) (ne_eqb a x (λ e. ne (sym e))) ∙ or_none (flag_at t x y)))
     (cases_eq x a)
 
-pub flag_set : (t : Flags) (a b : ℕ) → a < length t → b < length (get_or t a [])
+pub flag_set : (t : List (List Bool)) (a b : ℕ) → a < length t → b < length (get_or t a [])
     → (x y : ℕ) → flag_at (set t a (set (get_or t a []) b true)) x y ≡ (flag_at t x y || (eqb a x && eqb b y))
 flag_set t a b l m x y = table_with t a b l (set (get_or t a []) b true) (row_with (get_or t a []) b m) x y
 

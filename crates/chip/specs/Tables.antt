@@ -4,18 +4,15 @@ use Rattle.rows.specs.declared.refusal.Refusal.{Refusal}
 use Rattle.rows.specs.declared.refusal.Fault.{Fault}
 use Rattle.chip.specs.Charts.{Chart, Walk, Distance, records, joins, duration, GoodRecord}
 
-abbrev pub Flags : Type 0
-Flags = List (List Bool)
-
 -- row a, column b of a table
-abbrev pub flag_at : Flags → ℕ → ℕ → Bool
+abbrev pub flag_at : List (List Bool) → ℕ → ℕ → Bool
 flag_at table a b = slice_index_or (slice_index_or table a []) b false
 
 abbrev pub number_at : List (List ℕ) → ℕ → ℕ → ℕ
 number_at table a b = slice_index (slice_index_or table a []) b
 
 -- the chart of n wires that tables of couplings and of durations hold
-abbrev pub chart_at : ℕ → Flags → List ℕ → Chart
+abbrev pub chart_at : ℕ → List (List Bool) → List ℕ → Chart
 chart_at n couplings durations = record { wires = n; coupled = flag_at couplings; cycles = λ k. slice_index durations k }
 
 -- a number that is not 0; 0 stands for none
@@ -24,7 +21,7 @@ given zero = None
 given (suc d) = Some (suc d)
 
 -- the tables hold the first m records, and these are good
-pub record Read (n : ℕ) (bs : List ℕ) (m : ℕ) (couplings : Flags) (durations : List (Option ℕ)) : Type 0 where
+pub record Read (n : ℕ) (bs : List ℕ) (m : ℕ) (couplings : List (List Bool)) (durations : List (Option ℕ)) : Type 0 where
   pub good : (i : ℕ) → i < m → GoodRecord n bs i
   pub coupled : (a b : ℕ) → flag_at couplings a b ≡ joins n (take m (records bs)) a b
   pub lasting : (k : ℕ) → slice_index_or durations k None ≡ given (duration (take m (records bs)) k)
@@ -44,7 +41,7 @@ pub record FirstMissing (durations : List (Option ℕ)) (f : Fault) : Type 0 whe
   pub before : (q : ℕ) → 1 ≤ q → q < f.place → is_some (slice_index_or durations q None) ≡ true
 
 -- the chart of couplings alone
-abbrev pub links : Flags → Chart
+abbrev pub links : List (List Bool) → Chart
 links couplings = chart_at 64 couplings []
 
 -- wire v is found, by k couplings
@@ -60,23 +57,23 @@ abbrev pub size : List (Option ℕ) → ℕ
 size steps = count_by (λ (o : Option ℕ). is_some o) steps
 
 -- just the wires with a walk from a of at most d couplings are found, with the fewest
-pub record Level (couplings : Flags) (a d : ℕ) (steps : List (Option ℕ)) : Type 0 where
+pub record Level (couplings : List (List Bool)) (a d : ℕ) (steps : List (Option ℕ)) : Type 0 where
   pub reached : (v k : ℕ) → Found steps v k → Walk (links couplings) k a v
   pub within : (v k : ℕ) → Found steps v k → k ≤ d
   pub complete : (v k : ℕ) → k ≤ d → Walk (links couplings) k a v → (j : ℕ) × Found steps v j × (j ≤ k)
 
 -- more wires are found: those before stay, each new one is coupled with one d couplings away
-pub record Grown (couplings : Flags) (d : ℕ) (steps : List (Option ℕ)) (steps' : List (Option ℕ)) : Type 0 where
+pub record Grown (couplings : List (List Bool)) (d : ℕ) (steps : List (Option ℕ)) (steps' : List (Option ℕ)) : Type 0 where
   pub long : length steps' ≡ length steps
   pub kept : (v k : ℕ) → Found steps v k → Found steps' v k
   pub fresh : (v k : ℕ) → Found steps' v k
       → Found steps v k ⊎ ((k ≡ d + 1) × ((u : ℕ) × Found steps u d × (flag_at couplings u v ≡ true)))
 
 -- the row has the distance of wire a from each wire that it reaches
-abbrev pub Distances : Flags → ℕ → List ℕ → Type 0
+abbrev pub Distances : List (List Bool) → ℕ → List ℕ → Type 0
 Distances couplings a row = (v k : ℕ) → Walk (links couplings) k a v → Distance (links couplings) a v (slice_index row v) × (slice_index row v < 64)
 
 -- every wire that wire a reaches is found, and no other, by the fewest couplings
-pub record AllReached (couplings : Flags) (a : ℕ) (steps : List (Option ℕ)) : Type 0 where
+pub record AllReached (couplings : List (List Bool)) (a : ℕ) (steps : List (Option ℕ)) : Type 0 where
   pub fewest : (v d : ℕ) → Found steps v d → Distance (links couplings) a v d × (d < 64)
   pub all : (v k : ℕ) → Walk (links couplings) k a v → IsFound steps v

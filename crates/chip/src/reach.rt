@@ -1,7 +1,7 @@
 // Shortest distances along couplings, found breadth first.
-ghost use Rattle.std.specs.Prelude.{◌≡◌, ℕ, ◌+◌, ◌<◌, ◌≤◌, true, false, List, [], length, None, is_some, MatchBool, MatchOption, slice_index, slice_index_or};
+ghost use Rattle.std.specs.Prelude.{◌≡◌, ℕ, ◌+◌, ◌<◌, ◌≤◌, Bool, true, false, List, [], length, None, is_some, MatchBool, MatchOption, slice_index, slice_index_or};
 ghost use Rattle.chip.specs.Charts.{Inside};
-ghost use Rattle.chip.specs.Tables.{Flags, flag_at, links, Found, IsFound, size, Level, Grown, Distances, AllReached};
+ghost use Rattle.chip.specs.Tables.{flag_at, links, Found, IsFound, size, Level, Grown, Distances, AllReached};
 
 use crate::couplings::Couplings;
 
@@ -15,7 +15,7 @@ impl Reach {
     /// Wire `a` alone is found.
     fn start(a: usize) -> Reach
         requires wire { a < 64 }
-        ensures level { (table : Flags) → Level table a 0 result.steps }
+        ensures level { (table : List (List Bool)) → Level table a 0 result.steps }
         ensures one { 0 < size result.steps }
         ensures whole { length result.steps ≡ 64 }
     {

@@ -80,9 +80,9 @@ impl Book {
     fn judge(&self, step: Step) -> Result<Verdict, Fault>
         ensures { (l : SheetLog) → Holds self.now l → Judges (plan_in self.now.plan) l step result }
     {
-        let Some(action) = step.decode(self.plan.chip().wires()) else {
-            return Err(self.refuse(Refusal::BadStep));
-        };
+        let action = step
+            .decode(self.plan.chip().wires())
+            .ok_or(self.refuse(Refusal::BadStep))?;
         if !self.is_joined(action) {
             return Err(self.refuse(Refusal::Uncoupled));
         }
@@ -90,12 +90,12 @@ impl Book {
         if step.start < self.log.free_from(a, b) {
             return Err(self.refuse(Refusal::Busy));
         }
-        let Some(end) = step.start.checked_add(self.cycles(action) as u32) else {
-            return Err(self.refuse(Refusal::Late));
-        };
-        let Some(turn) = self.turn(action) else {
-            return Err(self.refuse(Refusal::NotNext));
-        };
+        let cycles = self.cycles(action) as u32;
+        let end = step
+            .start
+            .checked_add(cycles)
+            .ok_or(self.refuse(Refusal::Late))?;
+        let turn = self.turn(action).ok_or(self.refuse(Refusal::NotNext))?;
         if self.log.kept >= 262144 {
             return Err(self.refuse(Refusal::Full));
         }
