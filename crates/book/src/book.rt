@@ -12,6 +12,8 @@ use crate::log::Log;
 use plan::Plan;
 
 /// A laid plan and the log of what is done. It agrees with a sheet that an operator could have kept.
+// Clauses speak of every sheet that the book holds, and there is no model: the book does not keep the list of steps, so its value does not
+// give the sheet.
 #[derive(Clone, Copy)]
 pub struct Book {
     plan: Plan,

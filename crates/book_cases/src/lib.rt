@@ -57,6 +57,7 @@ fn lay_square() -> Result<Book, Fault>
 }
 
 /// A step that is not offered yet.
+// The kind is a byte, as in every step row.
 fn trial(kind: u8, first: u8, second: u8, start: u32) -> Trial
     ensures { result.step ≡ record { kind = kind; first = record { 0 = first }; second = record { 0 = second }; k = 0; start = start } }
 {

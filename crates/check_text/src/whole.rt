@@ -15,7 +15,7 @@ use audit::audit;
 use book::Book;
 use chip::ChipRecords;
 use plan::{Ability, Layout};
-use rows::{Fault, Gate as GateRow, Logical, Wire};
+use rows::{Fault, Gate as GateRow, Wire};
 use std::alloc::{AllocError, Global};
 use text::{Circuit, read};
 
@@ -90,11 +90,6 @@ fn reply_with(
 pub fn reply(heap: Global, chip: ChipRecords, input: &[u8]) -> Result<String, CheckError>
     ensures { Replies chip.entry.wires chip.entry.bytes.now input.now result }
 {
-    let mut rows = [GateRow {
-        kind: 0,
-        first: Logical(0),
-        second: Logical(0),
-        k: 0,
-    }; 1024];
+    let mut rows = [GateRow::default(); 1024];
     reply_with(heap, chip, input, &mut rows)
 }

@@ -9,6 +9,7 @@ mod make;
 use crate::couplings::Couplings;
 
 /// A chip of 1 to 64 wires, of which every two are joined by couplings.
+// Clauses say `chart_of`, and there is no model: a chip is Copy, and a model of a Copy type has to give all fields back, which a chart does not.
 // Arrays for 64 wires, not Vecs: no call of this layer may allocate, as it is turned away only by the listed refusals.
 #[derive(Clone, Copy)]
 pub struct Chip {

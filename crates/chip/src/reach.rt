@@ -24,6 +24,7 @@ impl Reach {
         Reach { steps }
     }
 
+    // A bool here and below, not an Option: whether a wire is new is the answer, and neither answer is a failure.
     /// Finds wire `v` by its coupling with wire `u`, `d` couplings away, if it is coupled and not found yet.
     fn visit(&mut self, couplings: &Couplings, u: usize, v: usize, d: u8) -> bool
         requires wires { (u < 64) × (v < 64) }

@@ -19,6 +19,7 @@ pub struct ChipRecords<'a> {
 #[derive(Clone, Copy)]
 pub enum Entry {
     Coupling(Wire, Wire),
+    // The kind by its code: the exchange, 12, has a duration and is no kind.
     Duration(u8, u16),
 }
 

@@ -1,4 +1,5 @@
 // The parts of a chip's text.
+// Loops over the wires, not chains: each line is written with `?`, and of a closure that writes to what it captures nothing is known.
 ghost use Rattle.std.specs.Prelude.{◌≡◌, ℕ, ◌<◌, ◌≤◌, ◌++◌, string_bytes, OnOk};
 ghost use Rattle.rows.specs.Kinds.{coded};
 ghost use Rattle.chip.specs.Chips.{chart_of};
@@ -41,6 +42,7 @@ pub(crate) fn couplings(out: &mut String, chip: &Chip) -> Result<(), AllocError>
 }
 
 /// The duration of the kind with this code, 12 for the exchange.
+// A code, not a kind: the exchange has a duration and is no kind.
 fn duration(out: &mut String, chip: &Chip, code: u8) -> Result<(), AllocError>
     requires { (1 ≤ code) × (code ≤ 12) }
     ensures { OnOk result (string_bytes out.new ≡ string_bytes out.old ++ duration_line (kind_name (coded code)) ((chart_of chip.now).cycles code)) }

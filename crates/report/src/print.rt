@@ -68,6 +68,7 @@ impl Listed<'_> {
             self.now.qubits ≤ 64 →
             (lines : List ℕ) × QubitLines self.now.qubits gs self.now.qubits lines × (string_bytes out.new ≡ string_bytes out.old ++ lines)) }
     {
+        // A loop over the qubits, not a chain: each line is written with `?`.
         for q in 0..self.qubits {
             self.add_qubit(out, sources, q)?;
         }

@@ -4,7 +4,7 @@ ghost use Rattle.report.specs.Report.{Reports};
 
 use crate::count::Listed;
 use crate::print::show_refusal;
-use rows::{Gate as GateRow, Logical};
+use rows::Gate as GateRow;
 use std::alloc::{AllocError, Global};
 use text::{Circuit, read};
 
@@ -33,11 +33,6 @@ pub fn report(heap: Global, text: &[u8]) -> Result<String, AllocError>
     if text.len() > LIMIT {
         return String::from_str(heap, "too long\n");
     }
-    let mut rows = [GateRow {
-        kind: 0,
-        first: Logical(0),
-        second: Logical(0),
-        k: 0,
-    }; 1024];
+    let mut rows = [GateRow::default(); 1024];
     report_with(heap, text, &mut rows)
 }

@@ -12,7 +12,7 @@ pub trait Place: Copy {
 }
 
 /// A qubit of the circuit, by its logical number.
-#[derive(Clone, Copy, Debug, PartialEq, Eq)]
+#[derive(Clone, Copy, Debug, Default, PartialEq, Eq)]
 pub struct Logical(pub u8);
 
 impl Place for Logical {
@@ -25,7 +25,7 @@ impl Place for Logical {
 }
 
 /// A wire of the chip.
-#[derive(Clone, Copy, Debug, PartialEq, Eq)]
+#[derive(Clone, Copy, Debug, Default, PartialEq, Eq)]
 pub struct Wire(pub u8);
 
 impl Place for Wire {

@@ -8,7 +8,7 @@ use crate::placed::{Placed, two_below};
 
 /// A gate row as it comes, right or wrong: a kind's code, its qubits (the second is 0 for a one-qubit kind), and k.
 // The kind is a byte: rows are given as bytes, and a row that is no gate has to be expressible, so that it can be refused.
-#[derive(Clone, Copy, Debug, PartialEq, Eq)]
+#[derive(Clone, Copy, Debug, Default, PartialEq, Eq)]
 pub struct Gate {
     pub kind: u8,
     pub first: Logical,

@@ -10,6 +10,7 @@ use lines::{Token, front};
 fn kind_named(word: &[u8]) -> Option<StepKind>
     ensures { MatchOption result ((κ : StepKind) → ¬ (word.now ≡ step_name (step_code κ))) (λ κ. word.now ≡ step_name (step_code κ)) }
 {
+    // A loop over the codes, not `find`: each code has to be turned into its kind first, which may fail.
     for code in 1..13 {
         let kind = StepKind::try_from(code).ok()?;
         if kind.name().as_bytes() == word {

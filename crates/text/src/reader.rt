@@ -9,7 +9,7 @@ ghost use Rattle.text.specs.Steps.{Headed, NotHeaded, Filled, Found};
 use crate::circuit::Circuit;
 use crate::lexer::Lexer;
 use lines::{gate_of, qubits_of};
-use rows::{Fault, Gate, Logical, Refusal};
+use rows::{Fault, Gate, Refusal};
 
 // A circuit holds at most so many gates.
 const MOST: usize = 1024;
@@ -82,12 +82,7 @@ pub fn read(text: &[u8], rows: &mut [Gate]) -> Result<Circuit, Fault>
     ensures { ReadAs text.now rows.old rows.new result }
 {
     // An array, and the count in the circuit, not a Vec: no call of this layer may allocate, as it is turned away only by the listed refusals.
-    let mut table = [Gate {
-        kind: 0,
-        first: Logical(0),
-        second: Logical(0),
-        k: 0,
-    }; MOST];
+    let mut table = [Gate::default(); MOST];
     let circuit = read_circuit(text, rows.len(), &mut table)?;
     deliver(circuit, text, &table, rows)
 }

@@ -1,6 +1,5 @@
 use Rattle.std.proofs.Common.{◌≡◌, ℕ, List, ◌++◌, codes, rules}
 use Rattle.rows.specs.declared.kind.Kind.{Kind}
-use Rattle.names.proofs.Peel.{peel, reads_from}
 use Rattle.names.proofs.opening.Goals as goal
 
 -- no arm took the line, so it does not begin with this name
@@ -49,36 +48,3 @@ returns-in_default c Kind.Tdag rest e = no_tdag c rest e
 returns-in_default c Kind.Cnot rest e = no_cnot c rest e
 returns-in_default c Kind.Cz rest e = no_cz c rest e
 returns-in_default c Kind.Crk rest e = no_crk c rest e
-
-pub returns-in-120 : goal.returns-in-120
-returns-in-120 c = peel (codes "x q") _ (reads_from (codes "x q") _ (search rules) (search rules))
-
-pub returns-in-121 : goal.returns-in-121
-returns-in-121 c = peel (codes "y q") _ (reads_from (codes "y q") _ (search rules) (search rules))
-
-pub returns-in-122 : goal.returns-in-122
-returns-in-122 c = peel (codes "z q") _ (reads_from (codes "z q") _ (search rules) (search rules))
-
-pub returns-in-104 : goal.returns-in-104
-returns-in-104 c = peel (codes "h q") _ (reads_from (codes "h q") _ (search rules) (search rules))
-
-pub returns-in-115 : goal.returns-in-115
-returns-in-115 c = peel (codes "s q") _ (reads_from (codes "s q") _ (search rules) (search rules))
-
-pub returns-in-115-2 : goal.returns-in-115-2
-returns-in-115-2 c = peel (codes "sdag q") _ (reads_from (codes "sdag q") _ (search rules) (search rules))
-
-pub returns-in-116 : goal.returns-in-116
-returns-in-116 c = peel (codes "t q") _ (reads_from (codes "t q") _ (search rules) (search rules))
-
-pub returns-in-116-2 : goal.returns-in-116-2
-returns-in-116-2 c = peel (codes "tdag q") _ (reads_from (codes "tdag q") _ (search rules) (search rules))
-
-pub returns-in-99 : goal.returns-in-99
-returns-in-99 c = peel (codes "cnot q") _ (reads_from (codes "cnot q") _ (search rules) (search rules))
-
-pub returns-in-99-2 : goal.returns-in-99-2
-returns-in-99-2 c = peel (codes "cz q") _ (reads_from (codes "cz q") _ (search rules) (search rules))
-
-pub returns-in-99-3 : goal.returns-in-99-3
-returns-in-99-3 c = peel (codes "crk q") _ (reads_from (codes "crk q") _ (search rules) (search rules))
