@@ -15,16 +15,9 @@ use audit::audit;
 use book::Book;
 use chip::ChipRecords;
 use plan::{Ability, Layout};
-use rows::{Fault, Gate as GateRow, Wire};
+use rows::{Gate as GateRow, Wire};
 use std::alloc::{AllocError, Global};
 use text::{Circuit, read};
-
-// The line of a refusal alone.
-fn refused(heap: Global, fault: Fault) -> Result<String, AllocError>
-    ensures { IfOk result (λ s. string_bytes s ≡ refusal_line fault) }
-{
-    format!(in heap; "{fault}\n")
-}
 
 // The first places: each qubit on the wire of its number.
 fn first_places(heap: Global, qubits: u8) -> Result<Vec<Wire>, AllocError>
@@ -43,45 +36,41 @@ fn judge(heap: Global, mut book: Book, input: &[u8]) -> Result<String, CheckErro
     Ok(out)
 }
 
-// Lays the input's circuit, of so many qubits and with these gates, and offers it the steps.
-fn lay_and_judge(
-    heap: Global,
-    chip: ChipRecords,
-    input: &[u8],
-    qubits: u8,
-    gates: &[GateRow],
-) -> Result<String, CheckError>
-    ensures { (gs : List Gate) → gates.now ≡ map row_of_gate gs → CircuitOf input.now qubits gs → Replies chip.entry.wires chip.entry.bytes.now input.now result }
-{
-    let places = first_places(heap, qubits)?;
-    let ability = Ability::all(64);
-    let layout = Layout {
-        chip,
-        qubits,
-        places: &places,
-        gates,
-    };
-    match Book::lay(&ability, layout) {
-        Ok(book) => judge(heap, book, input),
-        Err(fault) => Ok(refused(heap, fault)?),
-    }
+// An input, and the chip that its steps are for.
+#[derive(Clone, Copy)]
+struct Case<'a> {
+    chip: ChipRecords<'a>,
+    input: &'a [u8],
 }
 
-// The reply to an input whose circuit is read into these rows.
-fn reply_with(
-    heap: Global,
-    chip: ChipRecords,
-    input: &[u8],
-    rows: &mut [GateRow],
-) -> Result<String, CheckError>
-    requires { length rows.old ≡ 1024 }
-    ensures { Replies chip.entry.wires chip.entry.bytes.now input.now result }
-{
-    match read(circuit_part(input), rows) {
-        Ok(Circuit { qubits, gates }) => {
-            lay_and_judge(heap, chip, input, qubits, &rows[..gates])
+impl Case<'_> {
+    // Lays the input's circuit, of so many qubits and with these gates, and offers it the steps.
+    fn judged(&self, heap: Global, qubits: u8, gates: &[GateRow]) -> Result<String, CheckError>
+        ensures { (gs : List Gate) → gates.now ≡ map row_of_gate gs → CircuitOf self.now.input.now qubits gs → Replies self.now.chip.wires self.now.chip.bytes.now self.now.input.now result }
+    {
+        let places = first_places(heap, qubits)?;
+        let ability = Ability::all(64);
+        let layout = Layout {
+            chip: self.chip,
+            qubits,
+            places: &places,
+            gates,
+        };
+        match Book::lay(&ability, layout) {
+            Ok(book) => judge(heap, book, self.input),
+            Err(fault) => Ok(format!(in heap; "{fault}\n")?),
         }
-        Err(fault) => Ok(refused(heap, fault)?),
+    }
+
+    // The reply to the input, whose circuit is read into these rows.
+    fn reply(&self, heap: Global, rows: &mut [GateRow]) -> Result<String, CheckError>
+        requires { length rows.old ≡ 1024 }
+        ensures { Replies self.now.chip.wires self.now.chip.bytes.now self.now.input.now result }
+    {
+        match read(circuit_part(self.input), rows) {
+            Ok(Circuit { qubits, gates }) => self.judged(heap, qubits, &rows[..gates]),
+            Err(fault) => Ok(format!(in heap; "{fault}\n")?),
+        }
     }
 }
 
@@ -90,6 +79,7 @@ fn reply_with(
 pub fn reply(heap: Global, chip: ChipRecords, input: &[u8]) -> Result<String, CheckError>
     ensures { Replies chip.entry.wires chip.entry.bytes.now input.now result }
 {
+    // An array, not a Vec: `read` fills rows that are lent, and these need no memory that can run out.
     let mut rows = [GateRow::default(); 1024];
-    reply_with(heap, chip, input, &mut rows)
+    Case { chip, input }.reply(heap, &mut rows)
 }

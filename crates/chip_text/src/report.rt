@@ -1,13 +1,11 @@
 // The whole text for an input.
 ghost use Rattle.std.specs.Prelude.{◌≡◌, ℕ, IfOk, string_bytes};
-ghost use Rattle.rows.specs.Printed.{refusal_line};
 ghost use Rattle.chip.specs.Chips.{chart_of};
 ghost use Rattle.chip_text.specs.Report.{Far, chip_text, Text, Printed};
 
 use crate::counts::diameter;
 use crate::sections::{couplings, degrees, distances, durations};
 use chip::{Chip, ChipRecords};
-use rows::Fault;
 use std::alloc::{AllocError, Global};
 use std::fmt::Write;
 
@@ -27,20 +25,13 @@ fn describe(heap: Global, chip: &Chip) -> Result<String, AllocError>
     Ok(out)
 }
 
-/// The line of a refusal: its number and its place.
-fn refusal(heap: Global, fault: Fault) -> Result<String, AllocError>
-    ensures { IfOk result (λ t. string_bytes t ≡ refusal_line fault) }
-{
-    format!(in heap; "{fault}\n")
-}
-
 /// The text for a chip as it is written.
 fn report_of(heap: Global, records: ChipRecords) -> Result<String, AllocError>
     ensures { IfOk result (λ t. Text records.entry.wires records.entry.bytes.now (string_bytes t)) }
 {
     match Chip::new(records) {
         Ok(chip) => describe(heap, &chip),
-        Err(fault) => refusal(heap, fault),
+        Err(fault) => format!(in heap; "{fault}\n"),
     }
 }
 

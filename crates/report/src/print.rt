@@ -1,7 +1,6 @@
 // The lines of the report.
 ghost use Rattle.std.specs.Prelude.{◌≡◌, ℕ, ◌<◌, ◌≤◌, List, ◌++◌, length, IfOk, string_bytes, OnOk};
 ghost use Rattle.std.specs.List.{flat_map};
-ghost use Rattle.rows.specs.Printed.{refusal_line};
 ghost use Rattle.rows.specs.Steps.{Gate};
 ghost use Rattle.chains.specs.Chained.{Decodes, Deep, Source, Counts};
 ghost use Rattle.chains.specs.Sourced.{Sourced};
@@ -9,7 +8,7 @@ ghost use Rattle.report.specs.Report.{entry, kinds, kind_line, qubit_line, Qubit
 
 use crate::count::Listed;
 use chains::{Sources, depth_of};
-use rows::{Fault, Kind, Logical};
+use rows::{Kind, Logical};
 use std::alloc::{AllocError, Global};
 
 // Adds a line of a word and a number.
@@ -101,11 +100,4 @@ impl Listed<'_> {
         self.add_qubits(&mut out, &sources)?;
         Ok(out)
     }
-}
-
-// The line of a refusal.
-pub(crate) fn show_refusal(heap: Global, fault: Fault) -> Result<String, AllocError>
-    ensures { IfOk result (λ s. string_bytes s ≡ refusal_line fault) }
-{
-    format!(in heap; "{fault}\n")
 }

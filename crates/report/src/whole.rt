@@ -3,7 +3,6 @@ ghost use Rattle.std.specs.Prelude.{◌≡◌, ◌≤◌, length, IfOk, string_b
 ghost use Rattle.report.specs.Report.{Reports};
 
 use crate::count::Listed;
-use crate::print::show_refusal;
 use rows::Gate as GateRow;
 use std::alloc::{AllocError, Global};
 use text::{Circuit, read};
@@ -22,7 +21,7 @@ fn report_with(heap: Global, text: &[u8], rows: &mut [GateRow]) -> Result<String
             let rows = &rows[0..gates];
             Listed { rows, qubits }.show(heap)
         }
-        Err(fault) => show_refusal(heap, fault),
+        Err(fault) => format!(in heap; "{fault}\n"),
     }
 }
 
@@ -33,6 +32,7 @@ pub fn report(heap: Global, text: &[u8]) -> Result<String, AllocError>
     if text.len() > LIMIT {
         return String::from_str(heap, "too long\n");
     }
+    // An array, not a Vec: `read` fills rows that are lent, and these need no memory that can run out.
     let mut rows = [GateRow::default(); 1024];
     report_with(heap, text, &mut rows)
 }
