@@ -1,5 +1,5 @@
 -- The report on a whole text from its reading.
-use Rattle.std.proofs.Common.{◌≡◌, ℕ, ◌-◌, ◌≤◌, List, [], ◌∷◌, map, length, take, drop, IfOk, Ok, Err, Result, sym, ap, ◌∙◌, subst, arith}
+use Rattle.std.proofs.Common.{◌≡◌, ℕ, ◌-◌, ◌≤◌, List, [], ◌∷◌, map, length, take, drop, Ok, Err, sym, ap, ◌∙◌, subst, arith}
 use Rattle.std.proofs.lemmas.List.{length-map, take_at}
 use Rattle.rows.specs.declared.refusal.Fault.{Fault}
 use Rattle.rows.specs.declared.row.Gate.{Gate as GateRow}
@@ -10,10 +10,6 @@ use Rattle.text.proofs.Decoding.{circuit_fits, circuit_decodes}
 use Rattle.chains.specs.Chained.{Decodes}
 use Rattle.rows.specs.Printed.{refusal_line}
 use Rattle.report.specs.Report.{Shows, Reports, circuit, refused}
-
-pub made_so : {X E : Type 0} (r : Result X E) (P Q : X → Type 0) → ((x : X) → P x → Q x) → IfOk r P → IfOk r Q
-made_so (Ok x) P Q f h = f x h
-made_so (Err e) P Q f h = tt
 
 pub reports_same : (text out bytes : List ℕ) → Reports text out → bytes ≡ out → Reports text bytes
 reports_same text out bytes h e = subst (Reports text) (sym e) h
