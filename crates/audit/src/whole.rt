@@ -19,6 +19,7 @@ fn offer(book: &mut Book, step: Step) -> Option<Fault>
     book.keep(step).err()
 }
 
+// Book and trials are two parameters, not a struct: both are lent to the public call, whose clauses this function and `play` share.
 /// Offers all steps in turn, each kept or refused.
 fn offer_all(book: &mut Book, trials: &mut [Trial])
     ensures plays { Plays book.old trials.old book.new trials.new }

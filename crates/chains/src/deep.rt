@@ -13,6 +13,9 @@ use depth::Depth;
 use machine::Machine;
 use rows::{Gate as GateRow, Wire};
 
+// Rows and qubits are two parameters below and in `sources`, not a struct: `report` has one of both, and a type of this crate could not have
+// the methods that it needs.
+
 // The greatest count of the wires below n.
 fn greatest(machine: &Depth, n: u8) -> u64
     ensures { Greatest ((local depth_rule).reads (depth_means machine.now)) n result }
@@ -20,8 +23,6 @@ fn greatest(machine: &Depth, n: u8) -> u64
     (0..n).map(|q| machine.read(Wire(q))).max().unwrap_or(0)
 }
 
-// Rows and qubits are two parameters here and in `sources`, not a struct: `report` has its own of both, with methods that this crate could
-// not give it.
 // The counts of the wires after a circuit of at most 64 qubits.
 fn counts_of(rows: &[GateRow], qubits: u8) -> Depth
     ensures { (gs : List Gate) → Decodes qubits rows.now gs → qubits ≤ 64 → Counted result qubits gs }

@@ -15,6 +15,7 @@ pub(crate) fn is_steps(line: &[u8]) -> bool
 pub fn circuit_part(input: &[u8]) -> &[u8]
     ensures { Cut input.now result.now }
 {
+    // A loop, not `split`: the answer is how much comes before, and not the lines.
     let mut rest = input;
     while !rest.is_empty() {
         let (line, after) = first_line(rest);

@@ -49,6 +49,7 @@ struct GateLine<'a> {
     ghost writes: { Writes line.now (gate_in gate) },
 }
 
+// `LineFits` of the four parts stands in each clause, as in that of the public call, which has them as parameters.
 impl GateLine<'_> {
     // Refuses a gate whose qubits are not all qubits of the circuit.
     fn within(&self) -> Result<(), Fault>

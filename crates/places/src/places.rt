@@ -6,8 +6,8 @@ mod make;
 
 /// The wire of each qubit, and the qubit on each wire. There is an entry for each wire of the chip: the qubits come first,
 /// and then one for each wire that holds no qubit, so that an exchange always trades two entries.
-// Two arrays that look each other up, not a map: no call of this layer may allocate, as it is turned away only by the listed
-// refusals.
+// Two arrays, each the inverse of the other, not a map: no call of this layer may allocate, as it is turned away only by the listed
+// refusals. Clauses say `places_of`, and there is no model, as it does not give back the entries of empty wires.
 #[derive(Clone, Copy)]
 pub struct Places {
     wires: u8,

@@ -7,6 +7,7 @@ ghost use Rattle.plan.specs.Abilities.{known};
 use rows::Kind;
 
 /// The number of wires and the kinds of gates of the machine that a plan is laid over.
+// An array by the codes, not a set: no call of this layer may allocate, as it is turned away only by the listed refusals.
 #[derive(Clone, Copy)]
 pub struct Ability {
     width: u8,

@@ -9,6 +9,7 @@ use crate::circuit::Circuit;
 use chip::Chip;
 use places::Places;
 
+// Clauses say `plan_in`, and there is no model: a plan is Copy, and the plan of a sheet does not give the tables back.
 /// What is laid and does not change: a chip, the first places of the qubits on it, and the circuit.
 #[derive(Clone, Copy)]
 pub struct Plan {

@@ -6,7 +6,8 @@ ghost use Rattle.report.specs.Features.{marked, counted};
 
 use rows::{Gate as GateRow, Operation};
 
-// The rows of a circuit, and the number of its qubits.
+// The rows of a circuit, and the number of its qubits. What clauses say of its gates is no invariant, since nothing tests it here: the
+// report is made of rows that `read` wrote, and `read` says so.
 #[derive(Clone, Copy)]
 pub(crate) struct Listed<'a> {
     pub(crate) rows: &'a [GateRow],

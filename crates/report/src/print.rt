@@ -1,4 +1,4 @@
-// The lines of the report.
+// The lines of the report. Each clause says which bytes are added, in the library's words: a name for that would hide what is added.
 ghost use Rattle.std.specs.Prelude.{◌≡◌, ℕ, ◌<◌, ◌≤◌, List, ◌++◌, length, IfOk, string_bytes, OnOk};
 ghost use Rattle.std.specs.List.{flat_map};
 ghost use Rattle.rows.specs.Steps.{Gate};

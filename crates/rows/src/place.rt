@@ -24,6 +24,7 @@ impl Place for Logical {
     }
 }
 
+// Two wires stay two parameters, as in the calls of machines and chips, which a rule of the project names.
 /// A wire of the chip.
 #[derive(Clone, Copy, Debug, Default, PartialEq, Eq)]
 pub struct Wire(pub u8);

@@ -72,6 +72,7 @@ impl<P: Place> Placed<P> {
     }
 
     /// Whether the gate stands at the place.
+    // By number: clauses speak of numbers, and of `==` between places of an unknown type nothing is known.
     pub fn takes(self, place: P) -> bool
         ensures { result ≡ has (placed P.number self) (P.number place) }
     {

@@ -17,7 +17,7 @@ pub struct Gate {
 }
 
 /// A step row as it comes, right or wrong: as a gate row, on wires, with its start cycle. Code 12 is the exchange.
-// A byte for the kind, as in a gate row. It is flat, as it is given: a gate row at wires inside would make no call shorter.
+// A byte for the kind, as in a gate row. It is flat, as it is given: clauses, tests and the format name these five fields.
 #[derive(Clone, Copy, Debug, PartialEq, Eq)]
 pub struct Step {
     pub kind: u8,
@@ -48,6 +48,7 @@ impl Gate {
 
 impl Placed<Logical> {
     /// The row that writes it; where it is a gate of a circuit of n qubits, the row decodes to it again.
+    // A method, not From: the row of an action takes a start cycle, and both have one name.
     pub fn row(self) -> Gate
         ensures value { result ≡ row_of_gate (gate_at self) }
         ensures decodes { (n : ℕ) → GoodGate n (gate_at self) → gate_of n result ≡ Some (gate_at self) }

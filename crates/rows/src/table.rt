@@ -16,6 +16,7 @@ pub fn counted() -> [u8; 64]
     )
 }
 
+// One function for all tables, though `swap` would serve where the indices are tested: a rule of the project names it.
 /// Trades the entries `i` and `j` of a lent table; where one is past the end, nothing changes.
 pub fn trade<T>(table: &mut [T], i: usize, j: usize)
     ensures traded { i < length table.old → j < length table.old → table.new ≡ swap table.old i j }

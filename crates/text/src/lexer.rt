@@ -58,6 +58,7 @@ impl<'a> Iterator for Lexer<'a> {
 
     /// The next statement, if there is one more; else all of the text is passed.
     fn next(&mut self) -> Option<Word<'a>> {
+        // A loop, not `find` over lines: how many lines are passed is kept with what is left.
         while !self.rest.is_empty() {
             let (line, after) = first_line(self.rest);
             self.rest = after;

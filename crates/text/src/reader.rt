@@ -38,7 +38,7 @@ fn read_gates(lexer: Lexer, qubits: u8, room: usize, table: &mut [Gate]) -> Resu
         (λ count. Filled qubits room (left lexer.entry) count table.old table.new)
         (λ f. FirstRefused qubits room (left lexer.entry) f) }
 {
-    // Counted by hand, not by enumerate: the number of gates is the answer, and each gate needs to know how many rows are left.
+    // Counted by hand, not by enumerate: the number of gates is the answer.
     let mut count = 0;
     for word in lexer {
         table[count] = gate_of(word.bytes, word.line, qubits, room - count)?;
@@ -81,7 +81,8 @@ fn deliver(
 pub fn read(text: &[u8], rows: &mut [Gate]) -> Result<Circuit, Fault>
     ensures { ReadAs text.now rows.old rows.new result }
 {
-    // An array, and the count in the circuit, not a Vec: no call of this layer may allocate, as it is turned away only by the listed refusals.
+    // An array, and the count in the circuit, not a Vec: no call of this layer may allocate, as it is turned away only by the listed
+    // refusals. Rows are lent for the same reason.
     let mut table = [Gate::default(); MOST];
     let circuit = read_circuit(text, rows.len(), &mut table)?;
     deliver(circuit, text, &table, rows)
