@@ -2,8 +2,8 @@
 use Rattle.std.proofs.Common.{◌≡◌, ℕ, List, sym, refl, ap, ◌∙◌, subst, arith}
 use Rattle.rows.specs.declared.row.Step.{Step as StepRow}
 use Rattle.rows.specs.Steps.{step_row}
-use Rattle.step_text.specs.declared.kind.StepKind.{StepKind}
-use Rattle.step_text.specs.Kinds.{step_code}
+use Rattle.rows.specs.declared.step_kind.StepKind.{StepKind}
+use Rattle.rows.specs.StepKinds.{step_code}
 use Rattle.step_text.specs.StepLines.{named, operands, Plain, WritesStep}
 use Rattle.lines.specs.Number.{Begins}
 use Rattle.step_text.specs.Parts.{Operands}

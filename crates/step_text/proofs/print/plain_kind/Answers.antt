@@ -1,6 +1,6 @@
 use Rattle.std.proofs.Common.{sym, ◌∙◌}
-use Rattle.lines.proofs.Results.{no_value}
-use Rattle.step_text.proofs.Codes.{kind_at}
+use Rattle.rows.proofs.Results.{no_value}
+use Rattle.rows.proofs.StepKinds.{kind_at}
 use Rattle.step_text.proofs.print.plain_kind.Goals as goal
 
 pub returns-in_err-kind : goal.returns-in_err-kind
