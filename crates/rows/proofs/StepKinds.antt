@@ -1,6 +1,9 @@
 -- The kinds of steps by their codes.
-use Rattle.std.proofs.Common.{◌≡◌, ℕ, ◌≤◌, eqb, false, Some, None, Option, sym, refl, arith}
+use Rattle.std.proofs.Common.{◌≡◌, ℕ, ◌+◌, ◌-◌, ◌<◌, ◌≤◌, eqb, false, List, length, get_or, map, Some, None, Option, sym, refl, ap, ◌∙◌, rules, arith}
+use Rattle.std.specs.List.{range_with_len}
 use Rattle.std.proofs.lemmas.Bool.{ne_eqb}
+use Rattle.std.proofs.lemmas.List.{get_or-map, length-map}
+use Rattle.std.proofs.lemmas.List.FromFn.{get_or-range_with_len}
 use Rattle.std.proofs.lemmas.Bool.Decides.{nat_tests}
 use Rattle.rows.specs.declared.kind.Kind.{Kind}
 use Rattle.rows.specs.declared.step_kind.StepKind.{StepKind}
@@ -28,3 +31,22 @@ no_code c none = (ne_eqb c 12 (λ e. none StepKind.Exchange (sym e)), by (coded 
     by : (o : Option Kind) → coded c ≡ o → coded c ≡ None
     by None e = e
     by (Some κ) e = absurd (none (StepKind.Gate κ) (code_of c κ e))
+
+-- the codes are 1 to 12
+pub code_bounds : (κ : StepKind) → (1 ≤ step_code κ) × (step_code κ ≤ 12)
+code_bounds (StepKind.Gate κ) = search rules
+code_bounds StepKind.Exchange = search rules
+
+-- of the kinds in the order of their codes
+module _ (all : List StepKind) (in_order : map step_code all ≡ range_with_len 1 12) where
+  pub all_length : length all ≡ 12
+  all_length = sym (length-map all step_code) ∙ ap length in_order
+
+  pub at_index : (i : ℕ) (d : StepKind) → i < 12 → step_code (get_or all i d) ≡ 1 + i
+  at_index i d l =
+      let len = all_length in
+      sym (get_or-map step_code all i d 0 (omega arith)) ∙ ap (λ (xs : List ℕ). get_or xs i 0) in_order ∙ get_or-range_with_len 1 12 i 0 l
+
+  -- each code stands at the index before it
+  pub at_code : (κ d : StepKind) → step_code (get_or all (step_code κ - 1) d) ≡ step_code κ
+  at_code κ d = let b = code_bounds κ in at_index (step_code κ - 1) d (omega arith) ∙ (omega arith)

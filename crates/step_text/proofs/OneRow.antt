@@ -7,7 +7,8 @@ use Rattle.rows.specs.StepKinds.{step_code}
 use Rattle.step_text.specs.StepLines.{named, operands, Plain, WritesStep}
 use Rattle.lines.specs.Number.{Begins}
 use Rattle.step_text.specs.Parts.{Operands}
-use Rattle.step_text.proofs.Codes.{kind_at, named_same}
+use Rattle.rows.proofs.StepKinds.{kind_at}
+use Rattle.step_text.proofs.Codes.{named_same}
 use Rattle.lines.proofs.Decimal.{begins_same}
 use Rattle.step_text.proofs.Lists.{operands_same}
 
