@@ -1,7 +1,7 @@
 -- The kinds of steps by their codes.
-use Rattle.std.proofs.Common.{◌≡◌, ℕ, ◌+◌, ◌-◌, ◌<◌, ◌≤◌, eqb, false, List, length, get_or, map, Some, None, Option, sym, refl, ap, ◌∙◌, rules, arith}
+use Rattle.std.proofs.Common.{◌≡◌, ℕ, ◌+◌, ◌-◌, ◌<◌, ◌≤◌, eqb, false, ◌⊎◌, inl, inr, ⊎_elim, List, length, get_or, map, Some, None, Option, sym, refl, ap, ◌∙◌, rules, arith}
 use Rattle.std.specs.List.{range_with_len}
-use Rattle.std.proofs.lemmas.Bool.{ne_eqb}
+use Rattle.std.proofs.lemmas.Bool.{cases_lt, ne_eqb}
 use Rattle.std.proofs.lemmas.List.{get_or-map, length-map}
 use Rattle.std.proofs.lemmas.List.FromFn.{get_or-range_with_len}
 use Rattle.std.proofs.lemmas.Bool.Decides.{nat_tests}
@@ -31,6 +31,15 @@ no_code c none = (ne_eqb c 12 (λ e. none StepKind.Exchange (sym e)), by (coded 
     by : (o : Option Kind) → coded c ≡ o → coded c ≡ None
     by None e = e
     by (Some κ) e = absurd (none (StepKind.Gate κ) (code_of c κ e))
+
+pub outside : (c : ℕ) → ((κ : StepKind) → ¬ (step_code κ ≡ c)) → (c < 1) ⊎ (12 < c)
+outside c none = ⊎_elim
+    (λ (l : c < 1). inl l)
+    (λ (l : 1 ≤ c). ⊎_elim
+    (λ (g : 12 < c). inr g)
+    (λ (h : c ≤ 12). let at = kind_at c l h in absurd (none at.0 at.1))
+    (cases_lt 12 c))
+    (cases_lt c 1)
 
 -- the codes are 1 to 12
 pub code_bounds : (κ : StepKind) → (1 ≤ step_code κ) × (step_code κ ≤ 12)
