@@ -51,10 +51,10 @@ module _ (all : List StepKind) (in_order : map step_code all ≡ range_with_len 
   pub all_length : length all ≡ 12
   all_length = sym (length-map all step_code) ∙ ap length in_order
 
-  pub at_index : (i : ℕ) (d : StepKind) → i < 12 → step_code (get_or all i d) ≡ 1 + i
+  pub at_index : (i : ℕ) (d : StepKind) → i < 12 → step_code (get_or all i d) ≡ i + 1
   at_index i d l =
       let len = all_length in
-      sym (get_or-map step_code all i d 0 (omega arith)) ∙ ap (λ (xs : List ℕ). get_or xs i 0) in_order ∙ get_or-range_with_len 1 12 i 0 l
+      sym (get_or-map step_code all i d 0 (omega arith)) ∙ ap (λ (xs : List ℕ). get_or xs i 0) in_order ∙ get_or-range_with_len 1 12 i 0 l ∙ (omega arith)
 
   -- each code stands at the index before it
   pub at_code : (κ d : StepKind) → step_code (get_or all (step_code κ - 1) d) ≡ step_code κ

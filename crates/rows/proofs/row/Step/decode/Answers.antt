@@ -1,5 +1,5 @@
-use Rattle.std.proofs.Common.{cond, eqb, ◌&&◌, None, sym, ◌∙◌}
-use Rattle.rows.specs.Steps.{step_at, pair_below, swap, when, as_step, formed}
+use Rattle.std.proofs.Common.{cond, eqb, ◌&&◌, sym, ◌∙◌}
+use Rattle.rows.specs.Steps.{pair_below, swap, when, as_step, formed}
 use Rattle.rows.proofs.Results.{no_value}
 use Rattle.rows.proofs.StepKinds.{no_code}
 use Rattle.rows.proofs.row.Step.decode.Goals as goal
