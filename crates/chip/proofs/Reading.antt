@@ -78,6 +78,11 @@ lasts_some r e = grind (arith, nat_tests)
 pub lasts_kind : (r : Four) → lasts r ≡ true → (1 ≤ r.second) × (r.second ≤ 12)
 lasts_kind r e = grind (arith, nat_tests)
 
+-- the second number is no kind's
+pub no_lasting : (n : ℕ) (r : Four) → r.form ≡ 2 → (r.second < 1) ⊎ (12 < r.second) → (couples n r ≡ false) × (lasts r ≡ false)
+no_lasting n r e (inl l) = (grind (arith, nat_tests), grind (arith, nat_tests))
+no_lasting n r e (inr l) = (grind (arith, nat_tests), grind (arith, nat_tests))
+
 -- no number but those of kinds has a duration
 pub duration_outside : (rs : List Four) (k : ℕ) → (k < 1) ⊎ (12 < k) → duration rs k ≡ 0
 duration_outside [] k o = refl

@@ -6,7 +6,7 @@ ghost use Rattle.chip.specs.Tables.{Read};
 ghost use Rattle.chip.specs.Entries.{four_in, Gives, GivesNone};
 
 use crate::couplings::Couplings;
-use rows::{Fault, Refusal, Wire};
+use rows::{Fault, Refusal, StepKind, Wire};
 
 /// A chip as it is written: the number of its wires, and the bytes of its records, four each.
 #[derive(Clone, Copy)]
@@ -15,12 +15,11 @@ pub struct ChipRecords<'a> {
     pub bytes: &'a [u8],
 }
 
-/// What a good record gives: a coupling of two wires, or the duration of a kind.
+/// What a good record gives: a coupling of two wires, or the duration of a kind of steps.
 #[derive(Clone, Copy)]
 pub enum Entry {
     Coupling(Wire, Wire),
-    // The kind by its code: the exchange, 12, has a duration and is no kind.
-    Duration(u8, u16),
+    Duration(StepKind, u16),
 }
 
 impl Entry {
@@ -32,7 +31,8 @@ impl Entry {
             [1, a, b, 0] if a < wires && b < wires && a != b => {
                 Some(Entry::Coupling(Wire(a), Wire(b)))
             }
-            [2, kind @ 1..=12, low, high] => {
+            [2, code, low, high] => {
+                let kind = StepKind::try_from(code).ok()?;
                 let cycles = u16::from_le_bytes([low, high]);
                 (1..=4095)
                     .contains(&cycles)
@@ -73,10 +73,11 @@ impl Draft {
         match Entry::of(wires, quad)? {
             Entry::Coupling(a, b) => self.couplings.couple(a, b),
             Entry::Duration(kind, cycles) => {
-                if self.durations[kind as usize].is_some() {
+                let index = usize::from(kind.code());
+                if self.durations[index].is_some() {
                     return None;
                 }
-                self.durations[kind as usize] = Some(cycles);
+                self.durations[index] = Some(cycles);
             }
         }
         Some(())

@@ -1,5 +1,5 @@
 -- One step of the loops.
-use Rattle.std.proofs.Common.{◌≡◌, ℕ, zero, suc, ◌+◌, ◌<◌, ◌≤◌, max, Bool, true, false, cond, ◌⊎◌, List, [], ◌∷◌, ◌++◌, length, get_or, drop, sym, ap, ◌∙◌, subst, inl, inr, append_assoc, add-zero, add-one, zero-add, refl, filter, fold, ◌-◌, arith}
+use Rattle.std.proofs.Common.{◌≡◌, ℕ, zero, suc, ◌+◌, ◌<◌, ◌≤◌, max, Bool, true, false, cond, ◌⊎◌, List, [], ◌∷◌, ◌++◌, length, get_or, drop, sym, ap, ◌∙◌, subst, inl, inr, append_assoc, add-zero, add-one, zero-add, refl, filter, fold, arith}
 use Rattle.std.proofs.lemmas.Bool.Decides.{nat_tests}
 use Rattle.std.proofs.lemmas.Bool.{cases_lt}
 use Rattle.rows.specs.Refusals.{Accepted}
@@ -13,15 +13,6 @@ use Rattle.chip_text.specs.Report.{each, largest, count, Far, chip_text, Text, P
 pub each_more : (f : ℕ → List ℕ) (n : ℕ) (start before after : List ℕ) → before ≡ start ++ each n f → after ≡ before ++ f n → after ≡ start ++ each (n + 1) f
 each_more f n start before after p q =
     q ∙ ap (λ (xs : List ℕ). xs ++ f n) p ∙ append_assoc start (each n f) (f n) ∙ ap (λ (m : ℕ). start ++ each m f) (sym (add-one n))
-
--- the same, where parts are counted from 1
-pub each_up : (f : ℕ → List ℕ) (n : ℕ) (start before after : List ℕ) → 1 ≤ n → before ≡ start ++ each (n - 1) (λ i. f (i + 1)) → after ≡ before ++ f n
-    → after ≡ start ++ each (n + 1 - 1) (λ i. f (i + 1))
-each_up f n start before after l p q =
-    let e : n ≡ n - 1 + 1 = omega arith in
-    let m : n - 1 + 1 ≡ n + 1 - 1 = omega arith in
-    each_more (λ i. f (i + 1)) (n - 1) start before after p (q ∙ ap (λ (k : ℕ). before ++ f k) e)
-    ∙ ap (λ (k : ℕ). start ++ each k (λ i. f (i + 1))) m
 
 abbrev pub range : ℕ → Range ℕ
 range n = record { start = 0; end = n }

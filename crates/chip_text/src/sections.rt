@@ -2,12 +2,13 @@
 // Loops over the wires, not chains: each line is written with `?`, and of a closure that writes to what it captures nothing is known.
 ghost use Rattle.std.specs.Prelude.{◌≡◌, ℕ, ◌<◌, ◌≤◌, ◌++◌, string_bytes, OnOk};
 ghost use Rattle.rows.specs.Kinds.{coded};
+ghost use Rattle.rows.specs.StepKinds.{step_code};
 ghost use Rattle.chip.specs.Chips.{chart_of};
 ghost use Rattle.chip_text.specs.Report.{kind_name, coupling_part, couplings_of, couplings as couplings_text, duration_line, durations as durations_text, Far, distance_line, distances as distances_text, degrees as degrees_text};
 
 use crate::counts::{degree, distance};
 use chip::Chip;
-use rows::{Kind, Wire};
+use rows::{StepKind, Wire};
 use std::alloc::AllocError;
 use std::fmt::Write;
 
@@ -41,25 +42,29 @@ pub(crate) fn couplings(out: &mut String, chip: &Chip) -> Result<(), AllocError>
     Ok(())
 }
 
-/// The duration of the kind with this code, 12 for the exchange.
-// A code, not a kind: the exchange has a duration and is no kind.
-fn duration(out: &mut String, chip: &Chip, code: u8) -> Result<(), AllocError>
-    requires { (1 ≤ code) × (code ≤ 12) }
-    ensures { OnOk result (string_bytes out.new ≡ string_bytes out.old ++ duration_line (kind_name (coded code)) ((chart_of chip.now).cycles code)) }
+/// The cycles that a step of this kind lasts.
+fn cycles(chip: &Chip, kind: StepKind) -> u16
+    ensures { result ≡ (chart_of chip.now).cycles (step_code kind) }
 {
-    let (name, cycles) = match Kind::try_from(code) {
-        Ok(kind) => (kind.name(), chip.duration(kind)),
-        Err(_) => ("swap", chip.exchange_duration()),
-    };
-    writeln!(out, "duration {name} {cycles}")
+    match kind {
+        StepKind::Gate(kind) => chip.duration(kind),
+        StepKind::Exchange => chip.exchange_duration(),
+    }
 }
 
-/// The durations of all kinds, and of the exchange.
+/// The line of a kind's duration.
+fn duration(out: &mut String, chip: &Chip, kind: StepKind) -> Result<(), AllocError>
+    ensures { OnOk result (string_bytes out.new ≡ string_bytes out.old ++ duration_line (kind_name (coded (step_code kind))) ((chart_of chip.now).cycles (step_code kind))) }
+{
+    writeln!(out, "duration {} {}", kind.name(), cycles(chip, kind))
+}
+
+/// The durations of all kinds of steps.
 pub(crate) fn durations(out: &mut String, chip: &Chip) -> Result<(), AllocError>
     ensures { OnOk result (string_bytes out.new ≡ string_bytes out.old ++ durations_text (chart_of chip.now)) }
 {
-    for code in 1..=12 {
-        duration(out, chip, code)?;
+    for kind in StepKind::all() {
+        duration(out, chip, kind)?;
     }
     Ok(())
 }

@@ -1,3 +1,5 @@
 pub mod OneRefusal
 pub mod Decoding
 pub mod Same
+pub mod StepKinds
+pub mod Results

@@ -1,4 +1,5 @@
 pub mod Kinds
+pub mod StepKinds
 pub mod Numbers
 pub mod Steps
 pub mod Refusals

@@ -7,6 +7,7 @@ mod place;
 mod placed;
 mod refusal;
 mod row;
+mod step_kind;
 mod table;
 
 pub use kind::{Kind, NoKind};
@@ -14,4 +15,5 @@ pub use place::{Logical, Place, Wire};
 pub use placed::Placed;
 pub use refusal::{Fault, Layer, Refusal};
 pub use row::{Action, Gate, Operation, Step};
+pub use step_kind::StepKind;
 pub use table::{counted, trade};

@@ -1,7 +1,7 @@
 // A gate at its places, whatever these are.
-ghost use Rattle.std.specs.Prelude.{◌≡◌, Decides};
+ghost use Rattle.std.specs.Prelude.{◌≡◌, Decides, Some};
 ghost use Rattle.std.specs.Option.{option_map};
-ghost use Rattle.rows.specs.Kinds.{coded, k_suits};
+ghost use Rattle.rows.specs.Kinds.{k_suits};
 ghost use Rattle.rows.specs.Steps.{has, kind_of, pair_below, placed, shares, formed, well_formed};
 
 use crate::kind::Kind;
@@ -48,10 +48,9 @@ fn is_good(n: u8, kind: Kind, a: u8, b: u8, k: u8) -> bool
 
 impl<P: Place> Placed<P> {
     /// The gate that a row with these parts writes, for places below n, if the row is good there.
-    pub(crate) fn of_row(n: u8, kind: u8, first: P, second: P, k: u8) -> Option<Placed<P>>
-        ensures { option_map (placed P.number) result ≡ formed n (coded kind) (P.number first) (P.number second) k }
+    pub(crate) fn of_row(n: u8, kind: Kind, first: P, second: P, k: u8) -> Option<Placed<P>>
+        ensures { option_map (placed P.number) result ≡ formed n (Some kind) (P.number first) (P.number second) k }
     {
-        let kind = Kind::try_from(kind).ok()?;
         if !is_good(n, kind, first.number(), second.number(), k) {
             return None;
         }

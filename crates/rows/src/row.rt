@@ -3,8 +3,10 @@ ghost use Rattle.std.specs.Prelude.{◌≡◌, ℕ, Some};
 ghost use Rattle.std.specs.Option.{option_map};
 ghost use Rattle.rows.specs.Steps.{gate_of, gate_at, row_of_gate, step_of, step_at, written, GoodGate, GoodStep};
 
+use crate::kind::Kind;
 use crate::place::{Logical, Wire};
 use crate::placed::{Placed, two_below};
+use crate::step_kind::StepKind;
 
 /// A gate row as it comes, right or wrong: a kind's code, its qubits (the second is 0 for a one-qubit kind), and k.
 // The kind is a byte: rows are given as bytes, and a row that is no gate has to be expressible, so that it can be refused.
@@ -42,7 +44,8 @@ impl Gate {
     pub fn decode(self, qubits: u8) -> Option<Operation>
         ensures { option_map gate_at result ≡ gate_of qubits self }
     {
-        Placed::of_row(qubits, self.kind, self.first, self.second, self.k)
+        let kind = Kind::try_from(self.kind).ok()?;
+        Placed::of_row(qubits, kind, self.first, self.second, self.k)
     }
 }
 
@@ -75,14 +78,18 @@ impl Step {
     pub fn decode(self, wires: u8) -> Option<Action>
         ensures { option_map step_at result ≡ step_of wires self }
     {
-        if self.kind == 12 {
-            if self.k == 0 && two_below(wires, self.first.0, self.second.0) {
-                return Some(Action::Exchange(self.first, self.second));
+        match StepKind::try_from(self.kind).ok()? {
+            StepKind::Gate(kind) => {
+                let gate = Placed::of_row(wires, kind, self.first, self.second, self.k)?;
+                Some(Action::Gate(gate))
             }
-            return None;
+            StepKind::Exchange => {
+                if self.k != 0 || !two_below(wires, self.first.0, self.second.0) {
+                    return None;
+                }
+                Some(Action::Exchange(self.first, self.second))
+            }
         }
-        let gate = Placed::of_row(wires, self.kind, self.first, self.second, self.k)?;
-        Some(Action::Gate(gate))
     }
 }
 

@@ -1,26 +1,22 @@
--- The kinds of steps by their codes, and by their names.
-use Rattle.std.proofs.Common.{◌≡◌, ℕ, ◌+◌, ◌*◌, ◌≤◌, cond, eqb, List, [], ◌∷◌, ◌++◌, drop, Some, None, codes, Option, sym, refl, ap, ◌∙◌, arith}
+-- The kinds of steps by their names.
+use Rattle.std.proofs.Common.{◌≡◌, ℕ, ◌+◌, ◌-◌, ◌*◌, ◌≤◌, cond, eqb, List, [], ◌∷◌, ◌++◌, length, map, drop, Some, None, Option, MatchOption, codes, sym, refl, ap, ◌∙◌, arith}
+use Rattle.std.specs.List.{range_with_len, AllWithin}
 use Rattle.std.proofs.lemmas.List.{append_cancel_left}
-use Rattle.std.proofs.lemmas.Bool.Decides.{nat_tests}
 use Rattle.rows.specs.declared.kind.Kind.{Kind}
-use Rattle.rows.specs.Kinds.{code, coded}
-use Rattle.step_text.specs.declared.kind.StepKind.{StepKind}
-use Rattle.step_text.specs.Kinds.{step_code, step_name}
+use Rattle.rows.proofs.StepKinds.{kind_at, code_bounds, all_length, at_code}
+use Rattle.rows.specs.declared.step_kind.StepKind.{StepKind}
+use Rattle.rows.specs.StepKinds.{step_code, step_name}
 use Rattle.step_text.specs.StepLines.{named}
 
-code_of : (c : ℕ) (κ : Kind) → coded c ≡ Some κ → code κ ≡ c
-code_of c κ e = grind (arith, nat_tests)
-
-swap_of : (c : ℕ) → 1 ≤ c → c ≤ 12 → coded c ≡ None → 12 ≡ c
-swap_of c l h e = grind (arith, nat_tests)
-
--- each code from 1 to 12 is that of a kind
-pub kind_at : (c : ℕ) → 1 ≤ c → c ≤ 12 → (κ : StepKind) × (step_code κ ≡ c)
-kind_at c l h = by (coded c) refl
-  where
-    by : (o : Option Kind) → coded c ≡ o → (κ : StepKind) × (step_code κ ≡ c)
-    by None e = (StepKind.Exchange, swap_of c l h e)
-    by (Some κ) e = (StepKind.Gate κ, code_of c κ e)
+-- of the kinds in the order of their codes, the first whose name is the word
+pub first_named : (word : List ℕ) (all : List StepKind) → map step_code all ≡ range_with_len 1 12 → (Found : StepKind → Type 0) (r : Option StepKind)
+    → MatchOption r (AllWithin (λ κ. ¬ (word ≡ step_name (step_code κ))) all 0 (length all)) Found → ((κ : StepKind) → Found κ → word ≡ step_name (step_code κ))
+    → MatchOption r ((κ : StepKind) → ¬ (word ≡ step_name (step_code κ))) (λ κ. word ≡ step_name (step_code κ))
+first_named word all in_order Found None h found = λ κ e.
+    let b = code_bounds κ in
+    let l = all_length all in_order in
+    h (step_code κ - 1) κ (omega arith) (omega arith) (e ∙ ap step_name (sym (at_code all in_order κ κ)))
+first_named word all in_order Found (Some κ) h found = found κ h
 
 -- a number that tells the names apart, from the bytes before the first space
 abbrev key : ℕ → List ℕ → ℕ

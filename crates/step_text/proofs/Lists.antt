@@ -2,7 +2,7 @@
 use Rattle.std.proofs.Common.{◌≡◌, ℕ, Bool, true, false, List, [], ◌++◌, codes, decimal, sym, refl, ◌∙◌, subst, arith}
 use Rattle.std.proofs.lemmas.List.{append-nil, append_cancel_left}
 use Rattle.lines.specs.Number.{Digit, Unlike}
-use Rattle.step_text.specs.Kinds.{on_two, has_k}
+use Rattle.rows.specs.StepKinds.{on_two, has_k}
 use Rattle.step_text.specs.StepLines.{part}
 use Rattle.lines.specs.Number.{Begins}
 use Rattle.step_text.specs.Parts.{Follows, Operands}

@@ -2,12 +2,13 @@
 use Rattle.std.proofs.Common.{◌≡◌, ℕ, List, sym, refl, ap, ◌∙◌, subst, arith}
 use Rattle.rows.specs.declared.row.Step.{Step as StepRow}
 use Rattle.rows.specs.Steps.{step_row}
-use Rattle.step_text.specs.declared.kind.StepKind.{StepKind}
-use Rattle.step_text.specs.Kinds.{step_code}
+use Rattle.rows.specs.declared.step_kind.StepKind.{StepKind}
+use Rattle.rows.specs.StepKinds.{step_code}
 use Rattle.step_text.specs.StepLines.{named, operands, Plain, WritesStep}
 use Rattle.lines.specs.Number.{Begins}
 use Rattle.step_text.specs.Parts.{Operands}
-use Rattle.step_text.proofs.Codes.{kind_at, named_same}
+use Rattle.rows.proofs.StepKinds.{kind_at}
+use Rattle.step_text.proofs.Codes.{named_same}
 use Rattle.lines.proofs.Decimal.{begins_same}
 use Rattle.step_text.proofs.Lists.{operands_same}
 

@@ -7,8 +7,8 @@ use Rattle.lines.specs.Tokens.{Letter, Longest, Fronts}
 use Rattle.lines.specs.declared.token.Token.{Token}
 use Rattle.lines.proofs.Runs.{longest_same, longest_first}
 use Rattle.rows.specs.declared.kind.Kind.{Kind}
-use Rattle.step_text.specs.declared.kind.StepKind.{StepKind}
-use Rattle.step_text.specs.Kinds.{step_code, step_name}
+use Rattle.rows.specs.declared.step_kind.StepKind.{StepKind}
+use Rattle.rows.specs.StepKinds.{step_code, step_name}
 use Rattle.step_text.specs.StepLines.{named}
 
 -- a name is made of letters, and has one at least

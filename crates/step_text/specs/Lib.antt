@@ -1,4 +1,3 @@
-pub mod Kinds
 pub mod Errors
 pub mod StepLines
 pub mod Parts

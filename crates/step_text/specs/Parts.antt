@@ -1,7 +1,7 @@
 -- The parts of a step's line, as they are read from its front.
 use Rattle.std.specs.Prelude.{◌≡◌, ℕ, ◌≤◌, Bool, true, false, List, ◌++◌}
 use Rattle.lines.specs.Number.{Digit, Unlike}
-use Rattle.step_text.specs.Kinds.{on_two, has_k}
+use Rattle.rows.specs.StepKinds.{on_two, has_k}
 use Rattle.step_text.specs.StepLines.{part, operands}
 
 -- s begins with a comma and the number v if one is written, else v is 0; it goes on with rest

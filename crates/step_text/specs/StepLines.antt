@@ -1,7 +1,7 @@
 -- The lines of steps, and the line of a refusal.
 use Rattle.std.specs.Prelude.{◌≡◌, ℕ, ◌≤◌, Bool, true, false, List, [], ◌++◌, codes, decimal}
 use Rattle.rows.specs.declared.row.Step.{Step as StepRow}
-use Rattle.step_text.specs.Kinds.{step_name, on_two, has_k}
+use Rattle.rows.specs.StepKinds.{step_name, on_two, has_k}
 
 -- a comma and the number, or nothing
 abbrev pub part : Bool → ℕ → List ℕ

@@ -3,7 +3,6 @@
 #![tactic(auto)]
 
 mod error;
-mod kind;
 mod name;
 mod operands;
 mod print;

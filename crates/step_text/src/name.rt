@@ -1,23 +1,18 @@
 // The name of a step's kind.
 ghost use Rattle.std.specs.Prelude.{◌≡◌, ℕ, List, MatchOption};
-ghost use Rattle.step_text.specs.Kinds.{step_code, step_name};
+ghost use Rattle.rows.specs.StepKinds.{step_code, step_name};
 ghost use Rattle.step_text.specs.StepLines.{named};
 
-use crate::kind::StepKind;
 use lines::{Token, front};
+use rows::StepKind;
 
 // The kind with this name.
 fn kind_named(word: &[u8]) -> Option<StepKind>
     ensures { MatchOption result ((κ : StepKind) → ¬ (word.now ≡ step_name (step_code κ))) (λ κ. word.now ≡ step_name (step_code κ)) }
 {
-    // A loop over the codes, not `find`: each code has to be turned into its kind first, which may fail.
-    for code in 1..13 {
-        let kind = StepKind::try_from(code).ok()?;
-        if kind.name().as_bytes() == word {
-            return Some(kind);
-        }
-    }
-    None
+    StepKind::all()
+        .into_iter()
+        .find(|kind| kind.name().as_bytes() == word)
 }
 
 // The kind whose name stands between two spaces at the front of `s`, and what comes after them.

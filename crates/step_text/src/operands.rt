@@ -1,12 +1,11 @@
 // The wires of a step's line, and its k.
 ghost use Rattle.std.specs.Prelude.{ℕ, List, MatchOption};
-ghost use Rattle.step_text.specs.Kinds.{step_code};
+ghost use Rattle.rows.specs.StepKinds.{step_code};
 ghost use Rattle.lines.specs.Number.{Begins};
 ghost use Rattle.step_text.specs.Parts.{Follows, Operands};
 
-use crate::kind::StepKind;
 use lines::number_up_to;
-use rows::Wire;
+use rows::{StepKind, Wire};
 
 // The number at the front of `s`, if it is a byte, and what comes after it.
 fn byte(s: &[u8]) -> Option<(u8, &[u8])>

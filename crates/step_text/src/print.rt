@@ -1,12 +1,11 @@
 // The lines of steps and refusals, added to a text.
 ghost use Rattle.std.specs.Prelude.{◌≡◌, ◌↔◌, ◌++◌, string_bytes, codes, IsErrOf, MatchOption, OnOk};
 ghost use Rattle.rows.specs.Printed.{refusal_line};
-ghost use Rattle.step_text.specs.Kinds.{step_code};
+ghost use Rattle.rows.specs.StepKinds.{step_code};
 ghost use Rattle.step_text.specs.StepLines.{part, step_line, Plain};
 
 use crate::error::WriteError;
-use crate::kind::StepKind;
-use rows::{Fault, Step};
+use rows::{Fault, Step, StepKind};
 use std::alloc::AllocError;
 
 // The kind of a row that has a line.

@@ -4,7 +4,7 @@ use Rattle.std.proofs.lemmas.Bool.{cases_lt}
 use Rattle.std.specs.Result.{OkIff, result_ok}
 use Rattle.std.proofs.lemmas.Str.{IsUtf8-from_ascii}
 use Rattle.std.proofs.lemmas.Str.Parse.{parse_digits}
-use Rattle.lines.proofs.Results.{no_value}
+use Rattle.rows.proofs.Results.{no_value}
 use Rattle.lines.proofs.Decimal.{AllDigits, own, by_index, digits_ascii}
 use Rattle.lines.proofs.number.value_of.Goals as goal
 

@@ -1,5 +1,5 @@
 use Rattle.std.proofs.Common.{length, refl, ap, false-eqb}
-use Rattle.step_text.specs.Kinds.{step_code}
+use Rattle.rows.specs.StepKinds.{step_code}
 use Rattle.step_text.proofs.Lists.{after_first, after_second, after_k}
 use Rattle.step_text.proofs.operands.operands.Goals as goal
 

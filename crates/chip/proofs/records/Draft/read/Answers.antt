@@ -1,4 +1,5 @@
-use Rattle.std.proofs.Common.{ap, ◌∙◌, arith, sym}
+use Rattle.std.proofs.Common.{◌≡◌, rules, ap, ◌∙◌, arith, sym}
+use Rattle.rows.specs.StepKinds.{step_code}
 use Rattle.chip.specs.Charts.{Four, couples, lasts, amount}
 use Rattle.chip.proofs.Reading.{read_coupling, read_duration}
 use Rattle.chip.proofs.records.Draft.read.Goals as goal
@@ -14,5 +15,6 @@ pub returns-else-is_some : goal.returns-else-is_some
 returns-else-is_some c = λ bs i l is before.
     let e = rw c.in-Duration.is at c.in_ok-a.ensures in
     let s = c.args.self.now in
-    read_duration c.args.wires bs i s.couplings.rows s.durations before l (ap lasts is ∙ e.0) c.in-Duration.kind c.in-Duration.cycles
-    (ap (λ (r : Four). r.second) is ∙ e.1) (ap amount is ∙ e.2) (omega arith) (sym c.is_some.ensures ∙ c.if-is_some.false)
+    let index : step_code c.in-Duration.kind ≡ c.from-index.result = search rules in
+    read_duration c.args.wires bs i s.couplings.rows s.durations before l (ap lasts is ∙ e.0) c.from-index.result c.in-Duration.cycles
+    (ap (λ (r : Four). r.second) is ∙ e.1 ∙ index) (ap amount is ∙ e.2) (omega arith) (sym c.is_some.ensures ∙ c.if-is_some.false)

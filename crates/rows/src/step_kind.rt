@@ -1,12 +1,14 @@
 // The kinds of steps.
-ghost use Rattle.std.specs.Prelude.{◌≡◌};
-ghost use Rattle.step_text.specs.Kinds.{step_code, step_name, on_two, has_k, StepCoded};
+ghost use Rattle.std.specs.Prelude.{◌≡◌, map};
+ghost use Rattle.std.specs.List.{range_with_len};
+ghost use Rattle.rows.specs.StepKinds.{step_code, step_name, on_two, has_k, StepCoded};
 
-use rows::{Kind, NoKind};
+use crate::kind::{Kind, NoKind};
 
 /// What a step does: a gate of a kind, or the exchange of two wires.
-#[derive(Clone, Copy)]
-pub(crate) enum StepKind {
+// Not an Option of a kind: an exchange is a kind of step, not the lack of one.
+#[derive(Clone, Copy, Debug, PartialEq, Eq)]
+pub enum StepKind {
     Gate(Kind),
     Exchange,
 }
@@ -27,8 +29,28 @@ impl TryFrom<u8> for StepKind {
 }
 
 impl StepKind {
-    /// The code of the kind.
-    pub(crate) fn code(self) -> u8
+    /// All kinds, in the order of their codes.
+    pub fn all() -> [StepKind; 12]
+        ensures { map step_code result ≡ range_with_len 1 12 }
+    {
+        [
+            StepKind::Gate(Kind::X),
+            StepKind::Gate(Kind::Y),
+            StepKind::Gate(Kind::Z),
+            StepKind::Gate(Kind::H),
+            StepKind::Gate(Kind::S),
+            StepKind::Gate(Kind::Sdag),
+            StepKind::Gate(Kind::T),
+            StepKind::Gate(Kind::Tdag),
+            StepKind::Gate(Kind::Cnot),
+            StepKind::Gate(Kind::Cz),
+            StepKind::Gate(Kind::Crk),
+            StepKind::Exchange,
+        ]
+    }
+
+    /// The code of the kind in step rows and chip records.
+    pub fn code(self) -> u8
         ensures { result ≡ step_code self }
     {
         match self {
@@ -38,7 +60,7 @@ impl StepKind {
     }
 
     /// The name of the kind in a step's line.
-    pub(crate) fn name(self) -> &'static str
+    pub fn name(self) -> &'static str
         ensures { result.now ≡ step_name (step_code self) }
     {
         match self {
@@ -48,7 +70,7 @@ impl StepKind {
     }
 
     /// Whether a step of this kind stands on two wires.
-    pub(crate) fn is_double(self) -> bool
+    pub fn is_double(self) -> bool
         ensures { result ≡ on_two (step_code self) }
     {
         match self {
@@ -58,7 +80,7 @@ impl StepKind {
     }
 
     /// Whether a step of this kind has a k.
-    pub(crate) fn has_k(self) -> bool
+    pub fn has_k(self) -> bool
         ensures { result ≡ has_k (step_code self) }
     {
         matches!(self, StepKind::Gate(Kind::Crk))

@@ -3,7 +3,7 @@ use Rattle.std.specs.Prelude.{◌≡◌, ℕ, Bool, true, List, Some, None, code
 use Rattle.rows.specs.declared.kind.Kind.{Kind}
 use Rattle.rows.specs.declared.kind.NoKind.{NoKind}
 use Rattle.rows.specs.Kinds.{code, coded, double, name}
-use Rattle.step_text.specs.declared.kind.StepKind.{StepKind}
+use Rattle.rows.specs.declared.step_kind.StepKind.{StepKind}
 
 -- the name of a gate's kind, or of the exchange where there is none
 abbrev pub name_or_swap : Option Kind → List ℕ
@@ -32,6 +32,6 @@ abbrev pub step_code : StepKind → ℕ
 step_code (StepKind.Gate κ) = code κ
 step_code StepKind.Exchange = 12
 
--- the kind of this code, or none where it is no kind's code
+-- the kind of this code, or the number itself where it is no kind's code
 abbrev pub StepCoded : ℕ → Result StepKind NoKind → Type 0
-StepCoded number r = MatchResult r (λ κ. step_code κ ≡ number) (λ e. (κ : StepKind) → ¬ (step_code κ ≡ number))
+StepCoded number r = MatchResult r (λ κ. step_code κ ≡ number) (λ e. ((κ : StepKind) → ¬ (step_code κ ≡ number)) × (e.0 ≡ number))
