@@ -75,7 +75,7 @@ impl Step {
         ensures { option_map step_at result ≡ step_of wires self }
     {
         if self.kind == 12 {
-            if self.k == 0 && two_below(wires, self.first.0, self.second.0) {
+            if self.k == 0 && two_below(wires, self.first, self.second) {
                 return Some(Action::Exchange(self.first, self.second));
             }
             return None;
