@@ -15,6 +15,7 @@ use plan::{Ability, Layout};
 use rows::{Fault, Gate, Logical, Step, Wire};
 
 /// The square chip: durations, then the couplings 0-1, 0-2, 1-3, 2-3.
+// Written out: from the table of shipped chips it would come by its name, as an Option, and the case would rest on that table; no plainer.
 const SQUARE: [u8; 64] = [
     2, 1, 1, 0, 2, 2, 1, 0, 2, 3, 1, 0, 2, 4, 1, 0, 2, 5, 1, 0, 2, 6, 1, 0, 2, 7, 1, 0, 2, 8, 1, 0,
     2, 9, 2, 0, 2, 10, 2, 0, 2, 11, 2, 0, 2, 12, 6, 0, 1, 0, 1, 0, 1, 0, 2, 0, 1, 1, 3, 0, 1, 2, 3,

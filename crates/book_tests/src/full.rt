@@ -5,9 +5,6 @@ use crate::tools::{check_offers, cleared, lay, step_of};
 use book::Book;
 use std::test::Fail;
 
-/// The square as it is.
-pub static SOME_GATES: Layout = SQUARE;
-
 /// The square without gates.
 pub static NO_GATES: Layout = Layout {
     gates: &[],
@@ -44,7 +41,7 @@ fn exchange_often(book: &mut Book) -> Result<(), Fail> {
 
 #[test]
 fn no_step_more(rt: HostRuntime) -> Result<(), Fail> {
-    let mut book = lay(rt.alloc(), &SOME_GATES)?;
+    let mut book = lay(rt.alloc(), &SQUARE)?;
     exchange_often(&mut book)?;
     check_offers(&rt, rt.alloc(), &mut book, &LAST)?;
     check_offers(&rt, rt.alloc(), &mut book, &FULL)?;

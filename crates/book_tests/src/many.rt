@@ -10,17 +10,12 @@ use std::alloc::{AllocError, Global};
 use std::process::Abort;
 use std::test::Fail;
 
-/// The square; its gates are not used.
-pub static PLAIN: Layout = SQUARE;
-
 /// So many rows: row `bad` of kind 13, the others `x q0`.
 fn rows_but(heap: Global, count: usize, bad: usize) -> Result<Vec<GateRow>, AllocError> {
-    let mut rows = Vec::new(heap);
-    for i in 0..count {
-        let kind = if i == bad { 13 } else { X };
-        rows.push(gate_of(Line(kind, 0, 0, 0)))?;
-    }
-    Ok(rows)
+    (0..count)
+        .map(|i| if i == bad { 13 } else { X })
+        .map(|kind| gate_of(Line(kind, 0, 0, 0)))
+        .collect(heap)
 }
 
 /// How many rows, which is bad, and the place of the refusal.
@@ -38,7 +33,7 @@ pub static TOO_MANY: [(usize, usize, usize); 7] = [
 fn bad_and_too_many_rows(rt: HostRuntime) -> Result<(), Fail> {
     for (count, bad, place) in TOO_MANY.iter() {
         let rows = rows_but(rt.alloc(), *count, *bad)?;
-        match lay_rows(rt.alloc(), &PLAIN, &rows)? {
+        match lay_rows(rt.alloc(), &SQUARE, &rows)? {
             Ok(_) => return Err(Fail::new("laid")),
             Err(fault) => {
                 assert_eq!(rt; fault.number(), 12);
@@ -64,7 +59,7 @@ fn check_all_done(rt: &impl Abort, book: &mut Book) -> Result<(), Fail> {
 #[test]
 fn as_many_gates_as_fit(rt: HostRuntime) -> Result<(), Fail> {
     let rows = rows_but(rt.alloc(), 1024, 9999)?;
-    let mut book = lay_rows(rt.alloc(), &PLAIN, &rows)??;
+    let mut book = lay_rows(rt.alloc(), &SQUARE, &rows)??;
     check_all_done(&rt, &mut book)?;
     assert_eq!(rt; book.is_open(1023), Some(false));
     assert_eq!(rt; book.is_open(1024), None);
@@ -96,14 +91,11 @@ pub static WIDE: [(Row, Answer); 13] = [
 /// The records of a line of 64 wires, and its wires from the last to the first.
 fn line_of_64(heap: Global) -> Result<(Vec<u8>, Vec<Wire>), AllocError> {
     let mut bytes = Vec::new(heap);
-    let mut places = Vec::new(heap);
     bytes.extend_from_slice(EVEN)?;
     for i in 0..63 {
         bytes.extend_from_slice(&[1, i, i + 1, 0])?;
     }
-    for i in 0..64 {
-        places.push(Wire(63 - i))?;
-    }
+    let places = (0..64).rev().map(Wire).collect(heap)?;
     Ok((bytes, places))
 }
 

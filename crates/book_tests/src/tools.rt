@@ -34,11 +34,7 @@ pub(crate) fn gate_of(line: Line) -> Gate {
 
 /// The gate rows of the lines.
 fn gates_of(heap: Global, lines: &[Line]) -> Result<Vec<Gate>, AllocError> {
-    let mut gates = Vec::new(heap);
-    for line in lines {
-        gates.push(gate_of(*line))?;
-    }
-    Ok(gates)
+    lines.iter().map(|line| gate_of(*line)).collect(heap)
 }
 
 /// The records of `times` and then those of `records`.
@@ -136,11 +132,7 @@ fn look(book: &Book, n: u8) -> Look {
 
 /// What the book shows of the numbers below `count`.
 pub(crate) fn looks_of(heap: Global, book: &Book, count: u8) -> Result<Vec<Look>, AllocError> {
-    let mut looks = Vec::new(heap);
-    for n in 0..count {
-        looks.push(look(book, n))?;
-    }
-    Ok(looks)
+    (0..count).map(|n| look(book, n)).collect(heap)
 }
 
 /// The verdicts on all rows of a table.
@@ -149,11 +141,10 @@ fn verdicts_of(
     book: &Book,
     offers: &[(Row, Answer)],
 ) -> Result<Vec<Answer>, AllocError> {
-    let mut verdicts = Vec::new(heap);
-    for (row, _) in offers {
-        verdicts.push(judged(book, step_of(*row)))?;
-    }
-    Ok(verdicts)
+    offers
+        .iter()
+        .map(|(row, _)| judged(book, step_of(*row)))
+        .collect(heap)
 }
 
 /// A step that is refused: by the same number at the same place as its verdict, and all that the book shows is as before,

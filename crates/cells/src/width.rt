@@ -2,7 +2,7 @@
 ghost use Rattle.std.specs.Prelude.{◌≡◌, ◌≤◌, min, nat_lt};
 ghost use Rattle.rows.specs.Steps.{pair_below};
 
-use rows::Wire;
+use rows::{Wire, two_below};
 
 /// A number of wires, at most 64.
 #[derive(Clone, Copy)]
@@ -38,6 +38,6 @@ impl Width {
     pub fn has_two(self, a: Wire, b: Wire) -> bool
         ensures { result ≡ pair_below self.n a.0 b.0 }
     {
-        a.0 < self.n && b.0 < self.n && a.0 != b.0
+        two_below(self.n, a, b)
     }
 }

@@ -4,14 +4,13 @@
 pub const TIMES: &[u8] =
     b"\x02\x01\x01\x00\x02\x02\x01\x00\x02\x03\x01\x00\x02\x04\x01\x00\x02\x05\x01\x00\x02\x06\x01\x00\x02\x07\x01\x00\x02\x08\x01\x00\x02\x09\x02\x00\x02\x0a\x02\x00\x02\x0b\x02\x00\x02\x0c\x06\x00";
 
-/// Records, after those of `TIMES` if `timed`, and the refusal that they get: its number, 0 for none, and its place.
+/// Records, after those of `TIMES` if `timed`, and the refusal that they get, if any: its number and its place.
 #[derive(Clone, Copy)]
 pub struct Case {
     pub wires: u8,
     pub timed: bool,
     pub records: &'static [u8],
-    pub number: u8,
-    pub place: usize,
+    pub refused: Option<(u8, usize)>,
 }
 
 pub const CASES: [Case; 50] = [
@@ -20,400 +19,350 @@ pub const CASES: [Case; 50] = [
         wires: 0,
         timed: true,
         records: b"",
-        number: 7,
-        place: 0,
+        refused: Some((7, 0)),
     },
     // one wire
     Case {
         wires: 1,
         timed: true,
         records: b"",
-        number: 0,
-        place: 0,
+        refused: None,
     },
     // 65 wires
     Case {
         wires: 65,
         timed: true,
         records: b"",
-        number: 7,
-        place: 0,
+        refused: Some((7, 0)),
     },
     // 255 wires
     Case {
         wires: 255,
         timed: true,
         records: b"",
-        number: 7,
-        place: 0,
+        refused: Some((7, 0)),
     },
     // 64 wires, no coupling
     Case {
         wires: 64,
         timed: true,
         records: b"",
-        number: 10,
-        place: 1,
+        refused: Some((10, 1)),
     },
     // a star of 64 wires
     Case {
         wires: 64,
         timed: true,
         records: b"\x01\x00\x01\x00\x01\x00\x02\x00\x01\x00\x03\x00\x01\x00\x04\x00\x01\x00\x05\x00\x01\x00\x06\x00\x01\x00\x07\x00\x01\x00\x08\x00\x01\x00\x09\x00\x01\x00\x0a\x00\x01\x00\x0b\x00\x01\x00\x0c\x00\x01\x00\x0d\x00\x01\x00\x0e\x00\x01\x00\x0f\x00\x01\x00\x10\x00\x01\x00\x11\x00\x01\x00\x12\x00\x01\x00\x13\x00\x01\x00\x14\x00\x01\x00\x15\x00\x01\x00\x16\x00\x01\x00\x17\x00\x01\x00\x18\x00\x01\x00\x19\x00\x01\x00\x1a\x00\x01\x00\x1b\x00\x01\x00\x1c\x00\x01\x00\x1d\x00\x01\x00\x1e\x00\x01\x00\x1f\x00\x01\x00\x20\x00\x01\x00\x21\x00\x01\x00\x22\x00\x01\x00\x23\x00\x01\x00\x24\x00\x01\x00\x25\x00\x01\x00\x26\x00\x01\x00\x27\x00\x01\x00\x28\x00\x01\x00\x29\x00\x01\x00\x2a\x00\x01\x00\x2b\x00\x01\x00\x2c\x00\x01\x00\x2d\x00\x01\x00\x2e\x00\x01\x00\x2f\x00\x01\x00\x30\x00\x01\x00\x31\x00\x01\x00\x32\x00\x01\x00\x33\x00\x01\x00\x34\x00\x01\x00\x35\x00\x01\x00\x36\x00\x01\x00\x37\x00\x01\x00\x38\x00\x01\x00\x39\x00\x01\x00\x3a\x00\x01\x00\x3b\x00\x01\x00\x3c\x00\x01\x00\x3d\x00\x01\x00\x3e\x00\x01\x00\x3f\x00",
-        number: 0,
-        place: 0,
+        refused: None,
     },
     // 0 bytes
     Case {
         wires: 1,
         timed: false,
         records: b"",
-        number: 9,
-        place: 1,
+        refused: Some((9, 1)),
     },
     // 1 bytes
     Case {
         wires: 1,
         timed: false,
         records: b"\x02",
-        number: 7,
-        place: 0,
+        refused: Some((7, 0)),
     },
     // 2 bytes
     Case {
         wires: 1,
         timed: false,
         records: b"\x02\x01",
-        number: 7,
-        place: 0,
+        refused: Some((7, 0)),
     },
     // 3 bytes
     Case {
         wires: 1,
         timed: false,
         records: b"\x02\x01\x01",
-        number: 7,
-        place: 0,
+        refused: Some((7, 0)),
     },
     // 4 bytes
     Case {
         wires: 1,
         timed: false,
         records: b"\x02\x01\x01\x00",
-        number: 9,
-        place: 2,
+        refused: Some((9, 2)),
     },
     // 5 bytes
     Case {
         wires: 1,
         timed: false,
         records: b"\x02\x01\x01\x00\x02",
-        number: 7,
-        place: 0,
+        refused: Some((7, 0)),
     },
     // nothing at all
     Case {
         wires: 0,
         timed: false,
         records: b"",
-        number: 7,
-        place: 0,
+        refused: Some((7, 0)),
     },
     // form 0
     Case {
         wires: 2,
         timed: true,
         records: b"\x00\x00\x01\x00",
-        number: 8,
-        place: 12,
+        refused: Some((8, 12)),
     },
     // form 3
     Case {
         wires: 2,
         timed: true,
         records: b"\x03\x00\x01\x00",
-        number: 8,
-        place: 12,
+        refused: Some((8, 12)),
     },
     // form 255
     Case {
         wires: 2,
         timed: true,
         records: b"\xff\x00\x01\x00",
-        number: 8,
-        place: 12,
+        refused: Some((8, 12)),
     },
     // a coupling whose last byte is 1
     Case {
         wires: 2,
         timed: true,
         records: b"\x01\x00\x01\x01",
-        number: 8,
-        place: 12,
+        refused: Some((8, 12)),
     },
     // a coupling whose last byte is 255
     Case {
         wires: 2,
         timed: true,
         records: b"\x01\x00\x01\xff",
-        number: 8,
-        place: 12,
+        refused: Some((8, 12)),
     },
     // a wire with itself
     Case {
         wires: 2,
         timed: true,
         records: b"\x01\x01\x01\x00",
-        number: 8,
-        place: 12,
+        refused: Some((8, 12)),
     },
     // a first wire at N
     Case {
         wires: 2,
         timed: true,
         records: b"\x01\x02\x01\x00",
-        number: 8,
-        place: 12,
+        refused: Some((8, 12)),
     },
     // a second wire at N
     Case {
         wires: 2,
         timed: true,
         records: b"\x01\x00\x02\x00",
-        number: 8,
-        place: 12,
+        refused: Some((8, 12)),
     },
     // a first wire past N
     Case {
         wires: 2,
         timed: true,
         records: b"\x01\xc8\x01\x00",
-        number: 8,
-        place: 12,
+        refused: Some((8, 12)),
     },
     // a second wire past N
     Case {
         wires: 2,
         timed: true,
         records: b"\x01\x00\xff\x00",
-        number: 8,
-        place: 12,
+        refused: Some((8, 12)),
     },
     // one coupling
     Case {
         wires: 2,
         timed: true,
         records: b"\x01\x00\x01\x00",
-        number: 0,
-        place: 0,
+        refused: None,
     },
     // one coupling, the higher wire first
     Case {
         wires: 2,
         timed: true,
         records: b"\x01\x01\x00\x00",
-        number: 0,
-        place: 0,
+        refused: None,
     },
     // a coupling twice
     Case {
         wires: 2,
         timed: true,
         records: b"\x01\x00\x01\x00\x01\x00\x01\x00",
-        number: 0,
-        place: 0,
+        refused: None,
     },
     // a coupling both ways round
     Case {
         wires: 2,
         timed: true,
         records: b"\x01\x00\x01\x00\x01\x01\x00\x00",
-        number: 0,
-        place: 0,
+        refused: None,
     },
     // kind 0
     Case {
         wires: 2,
         timed: true,
         records: b"\x01\x00\x01\x00\x02\x00\x01\x00",
-        number: 8,
-        place: 13,
+        refused: Some((8, 13)),
     },
     // kind 13
     Case {
         wires: 2,
         timed: true,
         records: b"\x01\x00\x01\x00\x02\x0d\x01\x00",
-        number: 8,
-        place: 13,
+        refused: Some((8, 13)),
     },
     // kind 255
     Case {
         wires: 2,
         timed: true,
         records: b"\x01\x00\x01\x00\x02\xff\x01\x00",
-        number: 8,
-        place: 13,
+        refused: Some((8, 13)),
     },
     // kind 12 twice
     Case {
         wires: 2,
         timed: true,
         records: b"\x01\x00\x01\x00\x02\x0c\x06\x00",
-        number: 8,
-        place: 13,
+        refused: Some((8, 13)),
     },
     // kind 1 twice, another duration
     Case {
         wires: 2,
         timed: true,
         records: b"\x01\x00\x01\x00\x02\x01\x09\x00",
-        number: 8,
-        place: 13,
+        refused: Some((8, 13)),
     },
     // the second record of kind 1 is the bad one
     Case {
         wires: 2,
         timed: false,
         records: b"\x02\x01\x01\x00\x02\x01\x01\x00\x02\x02\x01\x00\x02\x03\x01\x00\x02\x04\x01\x00\x02\x05\x01\x00\x02\x06\x01\x00\x02\x07\x01\x00\x02\x08\x01\x00\x02\x09\x02\x00\x02\x0a\x02\x00\x02\x0b\x02\x00\x02\x0c\x06\x00\x01\x00\x01\x00",
-        number: 8,
-        place: 1,
+        refused: Some((8, 1)),
     },
     // a duration of 0
     Case {
         wires: 1,
         timed: false,
         records: b"\x02\x01\x00\x00\x02\x02\x01\x00\x02\x03\x01\x00\x02\x04\x01\x00\x02\x05\x01\x00\x02\x06\x01\x00\x02\x07\x01\x00\x02\x08\x01\x00\x02\x09\x02\x00\x02\x0a\x02\x00\x02\x0b\x02\x00\x02\x0c\x06\x00",
-        number: 8,
-        place: 0,
+        refused: Some((8, 0)),
     },
     // a duration of 1
     Case {
         wires: 1,
         timed: false,
         records: b"\x02\x01\x01\x00\x02\x02\x01\x00\x02\x03\x01\x00\x02\x04\x01\x00\x02\x05\x01\x00\x02\x06\x01\x00\x02\x07\x01\x00\x02\x08\x01\x00\x02\x09\x02\x00\x02\x0a\x02\x00\x02\x0b\x02\x00\x02\x0c\x06\x00",
-        number: 0,
-        place: 0,
+        refused: None,
     },
     // a duration of 4095
     Case {
         wires: 1,
         timed: false,
         records: b"\x02\x01\xff\x0f\x02\x02\x01\x00\x02\x03\x01\x00\x02\x04\x01\x00\x02\x05\x01\x00\x02\x06\x01\x00\x02\x07\x01\x00\x02\x08\x01\x00\x02\x09\x02\x00\x02\x0a\x02\x00\x02\x0b\x02\x00\x02\x0c\x06\x00",
-        number: 0,
-        place: 0,
+        refused: None,
     },
     // a duration of 4096
     Case {
         wires: 1,
         timed: false,
         records: b"\x02\x01\x00\x10\x02\x02\x01\x00\x02\x03\x01\x00\x02\x04\x01\x00\x02\x05\x01\x00\x02\x06\x01\x00\x02\x07\x01\x00\x02\x08\x01\x00\x02\x09\x02\x00\x02\x0a\x02\x00\x02\x0b\x02\x00\x02\x0c\x06\x00",
-        number: 8,
-        place: 0,
+        refused: Some((8, 0)),
     },
     // a duration of 65535
     Case {
         wires: 1,
         timed: false,
         records: b"\x02\x01\xff\xff\x02\x02\x01\x00\x02\x03\x01\x00\x02\x04\x01\x00\x02\x05\x01\x00\x02\x06\x01\x00\x02\x07\x01\x00\x02\x08\x01\x00\x02\x09\x02\x00\x02\x0a\x02\x00\x02\x0b\x02\x00\x02\x0c\x06\x00",
-        number: 8,
-        place: 0,
+        refused: Some((8, 0)),
     },
     // the last duration is 4096
     Case {
         wires: 1,
         timed: false,
         records: b"\x02\x01\x01\x00\x02\x02\x01\x00\x02\x03\x01\x00\x02\x04\x01\x00\x02\x05\x01\x00\x02\x06\x01\x00\x02\x07\x01\x00\x02\x08\x01\x00\x02\x09\x02\x00\x02\x0a\x02\x00\x02\x0b\x02\x00\x02\x0c\x00\x10",
-        number: 8,
-        place: 11,
+        refused: Some((8, 11)),
     },
     // the exchange has no duration
     Case {
         wires: 1,
         timed: false,
         records: b"\x02\x01\x01\x00\x02\x02\x01\x00\x02\x03\x01\x00\x02\x04\x01\x00\x02\x05\x01\x00\x02\x06\x01\x00\x02\x07\x01\x00\x02\x08\x01\x00\x02\x09\x02\x00\x02\x0a\x02\x00\x02\x0b\x02\x00",
-        number: 9,
-        place: 12,
+        refused: Some((9, 12)),
     },
     // kinds 1, 11 and 12 have no duration
     Case {
         wires: 1,
         timed: false,
         records: b"\x02\x02\x01\x00\x02\x03\x01\x00\x02\x04\x01\x00\x02\x05\x01\x00\x02\x06\x01\x00\x02\x07\x01\x00\x02\x08\x01\x00\x02\x09\x02\x00\x02\x0a\x02\x00",
-        number: 9,
-        place: 1,
+        refused: Some((9, 1)),
     },
     // no duration before parted
     Case {
         wires: 3,
         timed: false,
         records: b"\x01\x00\x01\x00",
-        number: 9,
-        place: 1,
+        refused: Some((9, 1)),
     },
     // ragged before a bad record
     Case {
         wires: 65,
         timed: false,
         records: b"\x09\x09\x09\x09",
-        number: 7,
-        place: 0,
+        refused: Some((7, 0)),
     },
     // a bad record before no duration
     Case {
         wires: 3,
         timed: false,
         records: b"\x09\x09\x09\x09",
-        number: 8,
-        place: 0,
+        refused: Some((8, 0)),
     },
     // the first of two bad records
     Case {
         wires: 3,
         timed: false,
         records: b"\x01\x00\x01\x00\x09\x09\x09\x09\x08\x08\x08\x08",
-        number: 8,
-        place: 1,
+        refused: Some((8, 1)),
     },
     // three wires, only 0 and 1 coupled
     Case {
         wires: 3,
         timed: true,
         records: b"\x01\x00\x01\x00",
-        number: 10,
-        place: 2,
+        refused: Some((10, 2)),
     },
     // wire 1 is the lowest out of reach
     Case {
         wires: 3,
         timed: true,
         records: b"\x01\x01\x02\x00",
-        number: 10,
-        place: 1,
+        refused: Some((10, 1)),
     },
     // wire 1 alone
     Case {
         wires: 4,
         timed: true,
         records: b"\x01\x02\x03\x00\x01\x00\x02\x00",
-        number: 10,
-        place: 1,
+        refused: Some((10, 1)),
     },
     // three pairs
     Case {
         wires: 6,
         timed: true,
         records: b"\x01\x00\x01\x00\x01\x02\x03\x00\x01\x04\x05\x00",
-        number: 10,
-        place: 2,
+        refused: Some((10, 2)),
     },
     // a part with the highest wires
     Case {
         wires: 5,
         timed: true,
         records: b"\x01\x00\x04\x00\x01\x04\x03\x00\x01\x03\x02\x00",
-        number: 10,
-        place: 1,
+        refused: Some((10, 1)),
     },
 ];
 

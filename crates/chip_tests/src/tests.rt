@@ -16,22 +16,19 @@ fn bytes_of(heap: Global, timed: bool, rest: &[u8]) -> Result<Vec<u8>, AllocErro
     Ok(bytes)
 }
 
-/// The number and the place of the refusal; 0 and 0 for a chip.
-fn answer(records: ChipRecords) -> (u8, usize) {
-    match Chip::new(records) {
-        Ok(_) => (0, 0),
-        Err(fault) => (fault.number(), fault.place),
-    }
+/// The number and the place of the refusal; none for a chip.
+fn refusal(records: ChipRecords) -> Option<(u8, usize)> {
+    let fault = Chip::new(records).err()?;
+    Some((fault.number(), fault.place))
 }
 
 fn check_case(rt: &impl Abort, heap: Global, case: &Case) -> Result<(), Fail> {
     let bytes = bytes_of(heap, case.timed, case.records)?;
-    let (number, place) = answer(ChipRecords {
+    let records = ChipRecords {
         wires: case.wires,
         bytes: &bytes,
-    });
-    assert_eq!(rt; number, case.number);
-    assert_eq!(rt; place, case.place);
+    };
+    assert_eq!(rt; refusal(records), case.refused);
     Ok(())
 }
 
@@ -58,12 +55,11 @@ fn without(heap: Global, missing: u8) -> Result<Vec<u8>, AllocError> {
 fn each_kind_missing(rt: HostRuntime) -> Result<(), Fail> {
     for kind in 1..13 {
         let bytes = without(rt.alloc(), kind)?;
-        let (number, place) = answer(ChipRecords {
+        let records = ChipRecords {
             wires: 1,
             bytes: &bytes,
-        });
-        assert_eq!(rt; number, 9);
-        assert_eq!(rt; place, kind as usize);
+        };
+        assert_eq!(rt; refusal(records), Some((9, kind as usize)));
     }
     Ok(())
 }

@@ -42,8 +42,7 @@ impl Names {
         ensures width { self.new.width ≡ self.old.width }
         ensures names { take self.new.width.n self.new.table ≡ patched (take self.old.width.n self.old.table) a.0 b.0 }
     {
-        let wires = self.width.get();
-        if a.0 < wires && b.0 < wires {
+        if self.width.has(a) && self.width.has(b) {
             trade(&mut self.table, usize::from(a.0), usize::from(b.0));
         }
     }

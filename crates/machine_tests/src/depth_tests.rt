@@ -7,8 +7,7 @@ use rows::{Kind, Wire};
 #[test]
 fn one_wire(rt: HostRuntime) {
     let mut d = Depth::fresh(2);
-    let mut count = 0u64;
-    for kind in [
+    let kinds = [
         Kind::X,
         Kind::Y,
         Kind::Z,
@@ -17,13 +16,13 @@ fn one_wire(rt: HostRuntime) {
         Kind::Sdag,
         Kind::T,
         Kind::Tdag,
-    ] {
+    ];
+    for (kind, count) in kinds.into_iter().zip(1..9) {
         assert!(rt; d.knows(kind));
         d.gate(kind, Wire(1), Wire(0), 0);
-        count = count.saturating_add(1);
         assert!(rt; reads(&d, [0, count, 0, 0]));
     }
-    assert!(rt; count == 8);
+    assert!(rt; reads(&d, [0, 8, 0, 0]));
 }
 
 #[test]

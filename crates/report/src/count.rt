@@ -19,10 +19,7 @@ fn is_marked<F: Fn(Operation) -> bool>(row: GateRow, qubits: u8, test: &F) -> bo
     requires { F.IsAlwaysCallable test.now }
     ensures { (p : Gate → Bool) → ((g : _) (b : Bool) → F.post test.now g b → b ≡ p (gate_at g)) → result ≡ marked p (gate_of qubits row) }
 {
-    match row.decode(qubits) {
-        Some(gate) => test(gate),
-        None => false,
-    }
+    row.decode(qubits).is_some_and(test)
 }
 
 impl Listed<'_> {

@@ -12,7 +12,7 @@ mod table;
 
 pub use kind::{Kind, NoKind};
 pub use place::{Logical, Place, Wire};
-pub use placed::Placed;
+pub use placed::{Placed, two_below};
 pub use refusal::{Fault, Layer, Refusal};
 pub use row::{Action, Gate, Operation, Step};
 pub use step_kind::StepKind;

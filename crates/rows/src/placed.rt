@@ -26,15 +26,15 @@ fn suits(kind: Kind, k: u8) -> bool
 }
 
 /// Whether these are two different places below n.
-pub(crate) fn two_below(n: u8, a: u8, b: u8) -> bool
-    ensures { result ≡ pair_below n a b }
+pub fn two_below<P: Place>(n: u8, a: P, b: P) -> bool
+    ensures { result ≡ pair_below n (P.number a) (P.number b) }
 {
-    a < n && b < n && a != b
+    a.number() < n && b.number() < n && a.number() != b.number()
 }
 
 /// Whether a row with these parts is good, for places below n.
-fn is_good(n: u8, kind: Kind, a: u8, b: u8, k: u8) -> bool
-    ensures { result ≡ well_formed n kind a b k }
+fn is_good<P: Place>(n: u8, kind: Kind, a: P, b: P, k: u8) -> bool
+    ensures { result ≡ well_formed n kind (P.number a) (P.number b) k }
 {
     if !suits(kind, k) {
         return false;
@@ -42,7 +42,7 @@ fn is_good(n: u8, kind: Kind, a: u8, b: u8, k: u8) -> bool
     if kind.is_double() {
         two_below(n, a, b)
     } else {
-        b == 0 && a < n
+        b.number() == 0 && a.number() < n
     }
 }
 
@@ -51,7 +51,7 @@ impl<P: Place> Placed<P> {
     pub(crate) fn of_row(n: u8, kind: Kind, first: P, second: P, k: u8) -> Option<Placed<P>>
         ensures { option_map (placed P.number) result ≡ formed n (Some kind) (P.number first) (P.number second) k }
     {
-        if !is_good(n, kind, first.number(), second.number(), k) {
+        if !is_good(n, kind, first, second, k) {
             return None;
         }
         if kind.is_double() {

@@ -84,7 +84,7 @@ impl Step {
                 Some(Action::Gate(gate))
             }
             StepKind::Exchange => {
-                if self.k != 0 || !two_below(wires, self.first.0, self.second.0) {
+                if self.k != 0 || !two_below(wires, self.first, self.second) {
                     return None;
                 }
                 Some(Action::Exchange(self.first, self.second))

@@ -27,10 +27,7 @@ fn refusals(rt: HostRuntime) -> Result<(), Fail> {
 
 #[test]
 fn the_longest_text(rt: HostRuntime) -> Result<(), Fail> {
-    let mut text = Vec::new(rt.alloc());
-    for _ in 0..65536 {
-        text.push(b'\n')?;
-    }
+    let mut text = vec![in rt.alloc(); b'\n'; 65536]?;
     check_report(&rt, &text, "refused 1 0\n")?;
     text.push(b'\n')?;
     check_report(&rt, &text, "too long\n")

@@ -12,6 +12,7 @@ impl Circuit {
         ensures { MatchResult result (λ c. Reads qubits rows.now c) (λ f. Miswritten qubits rows.now f) }
     {
         let mut gates = [Operation::One(Kind::X, 0, Logical(0)); 1024];
+        // Written by index: with `gates.iter_mut().zip(rows)` the proof does not close, as nothing is known of what a zip over iter_mut wrote.
         for (i, row) in rows.iter().enumerate() {
             if i >= 1024 {
                 return Err(Refusal::BadGate.at(1024));
