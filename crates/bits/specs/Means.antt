@@ -9,5 +9,6 @@ use Rattle.bits.specs.declared.BitsRule.{BitsRule}
 abbrev pub Bits : Type 0
 Bits = Table BitsRule Bool
 
+-- its state, always plus: the rule has no sign
 abbrev pub bits_means : Bits → Cells Bool
-bits_means s = means_of false s
+bits_means s = means_of false false s

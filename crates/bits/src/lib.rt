@@ -22,6 +22,8 @@ impl Local for BitsRule {
 
     ghost rule = { bits_rule };
 
+    ghost signed = { false };
+
     ghost made = { λ _. bit_of };
 
     ghost blank = { false };
@@ -35,6 +37,8 @@ impl Local for BitsRule {
     ghost zero = { λ _. refl };
 
     ghost begun = { λ _. record { wide = refl; plus = refl; past = λ _ _. refl } };
+
+    ghost plain = { λ _. record { single = λ _ _ _. refl; double = λ _ _ _ _. refl } };
 
     fn make(_width: u8, number: u64) -> bool {
         number % 2 == 1

@@ -1,12 +1,15 @@
--- The states of tables: made of cells, and after an exchange.
-use Rattle.std.proofs.Common.{◌≡◌, ℕ, ◌<◌, ◌≤◌, min, Bool, true, ◌≢◌, List, length, get_or, take, sym, ap, ◌∙◌, ⊎_elim, arith, length-take}
+-- The states of tables: made of cells, after an exchange, and after a gate.
+use Rattle.std.proofs.Common.{◌≡◌, ℕ, ◌<◌, ◌≤◌, min, Bool, true, false, ◌&&◌, ◌≢◌, List, length, get_or, slice_set, take, refl, sym, ap, ◌∙◌, ⊎_elim, arith, length-take, length-set, get_or-set_same, get_or-set_other}
 use Rattle.std.specs.List.{swap}
 use Rattle.std.proofs.lemmas.List.Edits.{swapped_from_swap, length-swap}
-use Rattle.std.proofs.lemmas.List.{get_or_past}
+use Rattle.std.proofs.lemmas.List.{get_or_past, get_or_default}
 use Rattle.std.proofs.lemmas.Bool.{cases_eq, cases_lt, cond-true}
 use Rattle.std.proofs.lemmas.Bool.Decides.{nat_tests}
-use Rattle.rows.specs.Steps.{pair_below, trade}
-use Rattle.machine.specs.Local.{Rule, crossed, local}
+use Rattle.rows.specs.declared.kind.Kind.{Kind}
+use Rattle.rows.specs.Kinds.{double}
+use Rattle.rows.specs.Steps.{two, pair_below, trade}
+use Rattle.machine.specs.declared.local.Double.{Double}
+use Rattle.machine.specs.Local.{Rule, differ, put, worked, crossed, local}
 use Rattle.cells.specs.Tables.{tabled}
 
 -- there is no number past the width
@@ -52,3 +55,42 @@ tabled_crossed r blank n xs ys m a b narrow long h e =
 
     wide : length ys ≡ length xs
     wide = ap length (e f g) ∙ length-swap xs a b
+
+-- an entry of a table after a gate on two wires
+set_two : {C : Type 0} (blank x y : C) (xs : List C) (a b w : ℕ) → a < length xs → b < length xs → a ≢ b →
+    get_or (slice_set (slice_set xs a x) b y) w blank ≡ put a x (put b y (λ v. get_or xs v blank)) w
+set_two blank x y xs a b w f g apart = ⊎_elim
+    (λ (p : w ≡ b). let e = get_or-set_same (slice_set xs a x) b y blank (simp length-set g) in grind (arith, nat_tests))
+    (λ (q : w ≢ b). let e = get_or-set_other (slice_set xs a x) b w y blank q in ⊎_elim
+    (λ (p : w ≡ a). let d = get_or-set_same xs a x blank f in grind (arith, nat_tests))
+    (λ (n : w ≢ a). let d = get_or-set_other xs a w x blank n in grind (arith, nat_tests))
+    (cases_eq w a))
+    (cases_eq w b)
+
+-- a gate on two wires, by what the rule makes of the two cells
+pub tabled_two : {C : Type 0} (r : Rule C) (blank d e : C) (n : ℕ) (xs : List C) (m : Bool) (κ : Kind) (k a b : ℕ) (made : Double C) → n ≤ 64 → n ≤ length xs →
+    r.known κ ≡ true → double κ ≡ true → pair_below n a b ≡ true → made ≡ r.double κ k (get_or xs a d) (get_or xs b e) →
+    tabled blank n (slice_set (slice_set xs a made.first) b made.second) (differ m made.flips) ≡ (local r).gated (two κ k a b) (tabled blank n xs m)
+tabled_two {C} r blank d e n xs m κ k a b made narrow long known kind h is =
+    (λ i. record { width = min n (wide i); cell = λ w. set_two blank (same i).first (same i).second xs a b w f g apart i; minus = differ m (same i).flips })
+    ∙ sym (cond-true _ (worked r (two κ k a b) (tabled blank n xs m)) (tabled blank n xs m) (grind (arith, nat_tests)))
+  where
+    f : a < length xs
+    f = grind (arith, nat_tests)
+
+    g : b < length xs
+    g = grind (arith, nat_tests)
+
+    apart : a ≢ b
+    apart e = grind (arith, nat_tests)
+
+    wide : length (slice_set (slice_set xs a made.first) b made.second) ≡ length xs
+    wide = length-set (slice_set xs a made.first) b made.second ∙ length-set xs a made.first
+
+    same : made ≡ r.double κ k (get_or xs a blank) (get_or xs b blank)
+    same = is ∙ (λ i. r.double κ k (get_or_default xs a d blank f i) (get_or_default xs b e blank g i))
+
+-- a sign that does not count is plus after a gate too, as no gate flips it
+pub sign_flipped : (signed minus flips : Bool) → (signed ≡ false → flips ≡ false) → (signed && differ minus flips) ≡ differ (signed && minus) flips
+sign_flipped true minus flips e = refl
+sign_flipped false minus flips e = sym (ap (differ false) (e refl))

@@ -1,6 +1,7 @@
 -- Tables of cells, one a wire.
 use Rattle.std.specs.Prelude.{◌≡◌, ℕ, ◌≤◌, min, Bool, false, List, length, take, slice_index, slice_index_or}
-use Rattle.machine.specs.Local.{Cells}
+use Rattle.rows.specs.declared.kind.Kind.{Kind}
+use Rattle.machine.specs.Local.{Rule, Cells}
 
 -- the state of n wires whose cells stand in a table; a wire past the table's end does not count, and has the blank cell
 abbrev pub tabled : {Cell : Type 0} → Cell → ℕ → List Cell → Bool → Cells Cell
@@ -15,3 +16,8 @@ pub record Begun {Cell : Type 0} (blank : Cell) (n : ℕ) (u : Cells Cell) : Typ
   pub wide : u.width ≡ n
   pub plus : u.minus ≡ false
   pub past : (w : ℕ) → n ≤ w → u.cell w ≡ blank
+
+-- a rule of which no gate flips the sign
+pub record Plain {Cell : Type 0} (r : Rule Cell) : Type 0 where
+  pub single : (κ : Kind) (k : ℕ) (u : Cell) → (r.single κ k u).flips ≡ false
+  pub double : (κ : Kind) (k : ℕ) (u v : Cell) → (r.double κ k u v).flips ≡ false

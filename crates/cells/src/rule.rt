@@ -1,8 +1,8 @@
 // What one wire holds.
-ghost use Rattle.std.specs.Prelude.{◌≡◌, ℕ};
+ghost use Rattle.std.specs.Prelude.{◌≡◌, ℕ, Bool, true, false};
 ghost use Rattle.machine.specs.Machines.{HasTrueCnot};
 ghost use Rattle.machine.specs.Local.{Rule, Cells, local};
-ghost use Rattle.cells.specs.Tables.{Begun};
+ghost use Rattle.cells.specs.Tables.{Begun, Plain};
 
 use crate::width::Width;
 use machine::{Double, Single};
@@ -14,6 +14,9 @@ pub trait Local {
     type Cell: Copy;
 
     ghost rule: { Rule Self.Cell };
+
+    // whether states have a sign of their own; else each is plus
+    ghost signed: { Bool };
 
     // the cell of a number, in a machine of so many wires
     ghost made: { ℕ → ℕ → Self.Cell };
@@ -62,10 +65,16 @@ pub trait Local {
     ghost zero: { (n : ℕ) → made n 0 ≡ blank };
 
     ghost begun: { (n : ℕ) → Begun blank n (fresh n) };
+
+    // if states have no sign of their own, no gate flips it
+    ghost plain: { signed ≡ false → Plain rule };
 }
 
 /// A rule by which gates may flip the sign.
-pub trait Signed: Local {}
+pub trait Signed: Local {
+    // it has a sign
+    ghost is: { Self.signed ≡ true };
+}
 
 /// A rule by which three cnots are the exchange.
 pub trait TrueLocal: Local {

@@ -1,5 +1,5 @@
 // A table of cells, one a wire.
-ghost use Rattle.std.specs.Prelude.{◌≡◌, ◌<◌, false, min, take, slice_index};
+ghost use Rattle.std.specs.Prelude.{◌≡◌, ◌<◌, false, ◌&&◌, min, take, slice_index};
 ghost use Rattle.cells.specs.Tables.{made_of};
 ghost use Rattle.cells.specs.Means.{means_of};
 
@@ -33,9 +33,9 @@ fn number_at(numbers: &[u64], width: Width, wire: usize) -> u64
 }
 
 impl<L: Local<Cell = C>, C: Copy> Table<L, C> {
-    /// The cells of the numbers, and a sign. Where there is no number, or the wire is not below the width, it is the cell of 0.
+    /// The cells of the numbers, and a sign, which counts if the rule is signed. Where there is no number, or the wire is not below the width, it is the cell of 0.
     fn filled(width: Width, numbers: &[u64], minus: bool) -> Self
-        ensures made { means_of L.blank result ≡ made_of (L.made width.n) width.n numbers.now minus }
+        ensures made { means_of L.signed L.blank result ≡ made_of (L.made width.n) width.n numbers.now (L.signed && minus) }
         ensures promise { L.Promise }
     {
         L::promise(width);
@@ -54,7 +54,7 @@ impl<L: Local<Cell = C>, C: Copy> Table<L, C> {
 
     /// The cells of the numbers, from 0 where there is none, and plus. More than 64 wires count as 64.
     pub fn new(width: u8, numbers: &[u64]) -> Self
-        ensures made { means_of L.blank result ≡ made_of (L.made (min width 64)) (min width 64) numbers.now false }
+        ensures made { means_of L.signed L.blank result ≡ made_of (L.made (min width 64)) (min width 64) numbers.now false }
         ensures promise { L.Promise }
     {
         Table::filled(Width::new(width), numbers, false)
@@ -62,9 +62,9 @@ impl<L: Local<Cell = C>, C: Copy> Table<L, C> {
 
     /// The cells with which wires begin, and plus. More than 64 wires count as 64.
     pub fn fresh(width: u8) -> Self
-        ensures made { means_of L.blank result ≡ L.fresh (min width 64) }
+        ensures made { means_of L.signed L.blank result ≡ L.fresh (min width 64) }
         ensures promise { L.Promise }
-        ensures fresh { L.FreshPromise (min width 64) (means_of L.blank result) }
+        ensures fresh { L.FreshPromise (min width 64) (means_of L.signed L.blank result) }
     {
         let width = Width::new(width);
         L::promise(width);
@@ -86,7 +86,7 @@ impl<L: Local<Cell = C>, C: Copy> Table<L, C> {
 impl<L: Signed<Cell = C>, C: Copy> Table<L, C> {
     /// The cells of the numbers, from 0 where there is none, and this sign. More than 64 wires count as 64.
     pub fn signed(width: u8, numbers: &[u64], minus: bool) -> Self
-        ensures made { means_of L.blank result ≡ made_of (L.made (min width 64)) (min width 64) numbers.now minus }
+        ensures made { means_of L.signed L.blank result ≡ made_of (L.made (min width 64)) (min width 64) numbers.now minus }
         ensures promise { L.Promise }
     {
         Table::filled(Width::new(width), numbers, minus)
@@ -94,7 +94,7 @@ impl<L: Signed<Cell = C>, C: Copy> Table<L, C> {
 
     /// Whether the sign is minus.
     pub fn is_minus(&self) -> bool
-        ensures { result ≡ (means_of L.blank self.now).minus }
+        ensures { result ≡ (means_of L.signed L.blank self.now).minus }
     {
         self.minus
     }

@@ -2,7 +2,7 @@
 
 #![tactic(auto)]
 
-ghost use Rattle.std.specs.Prelude.{◌≡◌, ◌^◌, nat_lt, refl, ⊤};
+ghost use Rattle.std.specs.Prelude.{◌≡◌, ◌^◌, nat_lt, refl, false, ⊤};
 ghost use Rattle.std.proofs.Math.Nat.{zero-mod};
 ghost use Rattle.std.proofs.lemmas.Bool.{cond-false, le-ltb};
 ghost use Rattle.cone.specs.Causal.{Causal};
@@ -24,6 +24,8 @@ impl Local for ConeRule {
 
     ghost rule = { cone_rule };
 
+    ghost signed = { false };
+
     ghost made = { set_of };
 
     ghost blank = { 0 };
@@ -37,6 +39,8 @@ impl Local for ConeRule {
     ghost zero = { λ n. zero-mod (2 ^ n) };
 
     ghost begun = { λ n. record { wide = refl; plus = refl; past = λ w h. cond-false (nat_lt w n) (2 ^ w) 0 (le-ltb w n h) } };
+
+    ghost plain = { λ _. record { single = λ _ _ _. refl; double = λ _ _ _ _. refl } };
 
     fn make(width: u8, number: u64) -> u64 {
         if width < 64 {

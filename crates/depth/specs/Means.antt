@@ -1,5 +1,5 @@
 -- The state of Depth.
-use Rattle.std.specs.Prelude.{ℕ}
+use Rattle.std.specs.Prelude.{ℕ, false}
 use Rattle.machine.specs.Local.{Cells}
 use Rattle.cells.specs.declared.table.Table.{Table}
 use Rattle.cells.specs.Means.{means_of}
@@ -9,5 +9,6 @@ use Rattle.depth.specs.declared.DepthRule.{DepthRule}
 abbrev pub Depth : Type 0
 Depth = Table DepthRule ℕ
 
+-- its state, always plus: the rule has no sign
 abbrev pub depth_means : Depth → Cells ℕ
-depth_means s = means_of 0 s
+depth_means s = means_of false 0 s

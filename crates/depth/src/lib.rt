@@ -2,7 +2,7 @@
 
 #![tactic(auto)]
 
-ghost use Rattle.std.specs.Prelude.{◌≡◌, refl, ⊤};
+ghost use Rattle.std.specs.Prelude.{◌≡◌, refl, false, ⊤};
 ghost use Rattle.depth.specs.Counts.{depth_rule, count_of, zeros};
 ghost use Rattle.depth.specs.Longest.{CountsChains};
 
@@ -21,6 +21,8 @@ impl Local for DepthRule {
 
     ghost rule = { depth_rule };
 
+    ghost signed = { false };
+
     ghost made = { λ _. count_of };
 
     ghost blank = { 0 };
@@ -34,6 +36,8 @@ impl Local for DepthRule {
     ghost zero = { λ _. refl };
 
     ghost begun = { λ _. record { wide = refl; plus = refl; past = λ _ _. refl } };
+
+    ghost plain = { λ _. record { single = λ _ _ _. refl; double = λ _ _ _ _. refl } };
 
     fn make(_width: u8, number: u64) -> u32 {
         (number % 0x1_0000_0000) as u32

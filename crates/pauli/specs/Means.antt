@@ -1,5 +1,5 @@
 -- The state of Pauli.
-use Rattle.std.specs.Prelude.{false}
+use Rattle.std.specs.Prelude.{true, false}
 use Rattle.machine.specs.Local.{Cells}
 use Rattle.cells.specs.declared.table.Table.{Table}
 use Rattle.cells.specs.Means.{means_of}
@@ -11,5 +11,6 @@ use Rattle.pauli.specs.Letters.{letter}
 abbrev pub Pauli : Type 0
 Pauli = Table PauliRule Letter
 
+-- its state, with the table's sign
 abbrev pub pauli_means : Pauli → Cells Letter
-pauli_means s = means_of (letter false false) s
+pauli_means s = means_of true (letter false false) s

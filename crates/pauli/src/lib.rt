@@ -2,7 +2,8 @@
 
 #![tactic(auto)]
 
-ghost use Rattle.std.specs.Prelude.{◌≡◌, false, refl, ⊤};
+ghost use Rattle.std.specs.Prelude.{◌≡◌, true, false, refl, ⊤};
+ghost use Rattle.std.proofs.lemmas.Bool.{true≢false};
 ghost use Rattle.rows.specs.declared.kind.Kind.{Kind};
 ghost use Rattle.pauli.specs.declared.Letter.{Letter};
 ghost use Rattle.pauli.specs.Conjugation.{PauliPromise};
@@ -31,6 +32,8 @@ impl Local for PauliRule {
 
     ghost rule = { pauli_rule };
 
+    ghost signed = { true };
+
     ghost made = { λ _. letter_of };
 
     ghost blank = { letter false false };
@@ -44,6 +47,8 @@ impl Local for PauliRule {
     ghost zero = { λ _. refl };
 
     ghost begun = { λ _. record { wide = refl; plus = refl; past = λ _ _. refl } };
+
+    ghost plain = { λ e. absurd (true≢false e) };
 
     fn make(_width: u8, number: u64) -> Letter {
         Letter {
@@ -130,7 +135,9 @@ fn cz(first: Letter, second: Letter) -> Double<Letter>
     }
 }
 
-impl Signed for PauliRule {}
+impl Signed for PauliRule {
+    ghost is = { refl };
+}
 
 impl TrueLocal for PauliRule {
     fn cross() {}

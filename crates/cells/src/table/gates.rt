@@ -15,7 +15,7 @@ impl<L: Local<Cell = C>, C: Copy> Table<L, C> {
     /// A gate on one wire.
     fn gate_one(&mut self, kind: Kind, a: Wire, k: u8)
         requires { double kind ≡ false }
-        ensures { means_of L.blank self.new ≡ (local L.rule).gated (one kind k a.0) (means_of L.blank self.old) }
+        ensures { means_of L.signed L.blank self.new ≡ (local L.rule).gated (one kind k a.0) (means_of L.signed L.blank self.old) }
     {
         let i = usize::from(a.0);
         if L::known(kind) && self.width.has(a) {
@@ -28,7 +28,7 @@ impl<L: Local<Cell = C>, C: Copy> Table<L, C> {
     /// A gate on two wires.
     fn gate_two(&mut self, kind: Kind, a: Wire, b: Wire, k: u8)
         requires { double kind ≡ true }
-        ensures { means_of L.blank self.new ≡ (local L.rule).gated (two kind k a.0 b.0) (means_of L.blank self.old) }
+        ensures { means_of L.signed L.blank self.new ≡ (local L.rule).gated (two kind k a.0 b.0) (means_of L.signed L.blank self.old) }
     {
         let (i, j) = (usize::from(a.0), usize::from(b.0));
         if L::known(kind) && self.width.has_two(a, b) {
@@ -43,7 +43,7 @@ impl<L: Local<Cell = C>, C: Copy> Table<L, C> {
 impl<L: Local<Cell = C>, C: Copy> Machine for Table<L, C> {
     ghost State = { Cells C };
 
-    ghost means = { means_of L.blank };
+    ghost means = { means_of L.signed L.blank };
 
     ghost acts = { local L.rule };
 
