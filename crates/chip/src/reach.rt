@@ -11,6 +11,7 @@ pub(crate) struct Reach {
     pub steps: [Option<u8>; 64],
 }
 
+// What has grown is promised alike for a wire, for its neighbours and for a round: one promise at three sizes, which no type could hold.
 impl Reach {
     /// Wire `a` alone is found.
     fn start(a: usize) -> Reach
@@ -81,6 +82,7 @@ impl Reach {
         requires inside { Inside (links couplings.now.rows) }
         ensures { AllReached couplings.now.rows a result.steps }
     {
+        // A loop, not `find`: each round changes the table, and the first that finds nothing ends it.
         let mut reach = Reach::start(a);
         for d in 0..64 {
             if !reach.round(couplings, d) {
@@ -100,7 +102,7 @@ impl Reach {
         self.steps[..n].iter().position(|steps| steps.is_none())
     }
 
-    /// The number of couplings of each wire, 0 where it is not found.
+    /// By how many couplings each wire was reached, 0 where it is not found.
     fn row(&self) -> [u8; 64]
         ensures { (v d : ℕ) → Found self.now.steps v d → slice_index result v ≡ d }
     {

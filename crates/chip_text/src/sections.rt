@@ -1,5 +1,6 @@
 // The parts of a chip's text.
 // Loops over the wires, not chains: each line is written with `?`, and of a closure that writes to what it captures nothing is known.
+// Text and chip are two parameters, not a struct: it would make each clause longer. Clauses say which bytes are added, in the library's words.
 ghost use Rattle.std.specs.Prelude.{◌≡◌, ℕ, ◌<◌, ◌≤◌, ◌++◌, string_bytes, OnOk};
 ghost use Rattle.rows.specs.Kinds.{coded};
 ghost use Rattle.rows.specs.StepKinds.{step_code};

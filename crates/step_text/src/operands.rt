@@ -15,6 +15,7 @@ fn byte(s: &[u8]) -> Option<(u8, &[u8])>
     Some((v as u8, rest))
 }
 
+// A bool, not an Option of what is written: the grammar says `part` of it, and what is read is the number in either case.
 // The byte after a comma at the front of `s`, or 0 where none is written, and what comes after it.
 fn part(written: bool, s: &[u8]) -> Option<(u8, &[u8])>
     ensures { MatchOption result ((v : ℕ) (rest : List ℕ) → ¬ Follows written s.now v rest) (λ x. Follows written s.now x.0 x.1.now) }

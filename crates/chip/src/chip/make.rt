@@ -25,6 +25,7 @@ fn all_given(durations: &[Option<u16>; 13]) -> Result<[u16; 13], Fault>
 }
 
 impl ChipRecords<'_> {
+    // `Even` is required by `read`, `build` and `chip`, and is no type of its own: the three call one another, and nobody else calls them.
     /// Refuses a number of wires that is not 1 to 64, and bytes that are not by four.
     fn even(self) -> Result<(), Fault>
         ensures { MatchResult result
