@@ -1,4 +1,4 @@
-// The lines of the answers.
+// The lines of the answers. Each clause says which bytes are added, in the library's words.
 ghost use Rattle.std.specs.Prelude.{◌≡◌, ◌++◌, IfOk, string_bytes, OnOk};
 ghost use Rattle.std.specs.List.{flat_map};
 ghost use Rattle.check_text.specs.Answers.{answer_line, trial_line, last_line, answers_text};

@@ -1,4 +1,4 @@
-// The lines of steps and refusals, added to a text.
+// The lines of steps and refusals, added to a text. Each clause says which bytes are added, in the library's words.
 ghost use Rattle.std.specs.Prelude.{◌≡◌, ◌↔◌, ◌++◌, string_bytes, codes, IsErrOf, MatchOption, OnOk};
 ghost use Rattle.rows.specs.Printed.{refusal_line};
 ghost use Rattle.rows.specs.StepKinds.{step_code};
