@@ -15,6 +15,13 @@ pub struct ChipRecords<'a> {
     pub bytes: &'a [u8],
 }
 
+/// A chip as it is written, with 1 to 64 wires, and bytes by four.
+#[derive(Clone, Copy)]
+pub(crate) struct EvenRecords<'a> {
+    pub records: ChipRecords<'a>,
+    ghost even: { Even records.wires records.bytes.now },
+}
+
 /// What a good record gives: a coupling of two wires, or the duration of a kind of steps.
 #[derive(Clone, Copy)]
 pub enum Entry {
@@ -84,19 +91,17 @@ impl Draft {
     }
 }
 
-impl ChipRecords<'_> {
+impl EvenRecords<'_> {
     /// Reads the records, up to the first bad one.
     pub(crate) fn read(self) -> Result<Draft, Fault>
-        requires { Even self.wires self.bytes.now }
         ensures { MatchResult result
-            (λ d. Read self.entry.wires self.entry.bytes.now (length (records self.entry.bytes.now)) d.couplings.rows d.durations)
-            (λ f. Turned (ChipFits self.entry.wires self.entry.bytes.now) f) }
+            (λ d. Read self.entry.records.wires self.entry.records.bytes.now (length (records self.entry.records.bytes.now)) d.couplings.rows d.durations)
+            (λ f. Turned (ChipFits self.entry.records.wires self.entry.records.bytes.now) f) }
     {
+        let ChipRecords { wires, bytes } = self.records;
         let mut draft = Draft::blank();
-        for (i, quad) in self.bytes.as_chunks::<4>().0.iter().enumerate() {
-            draft
-                .read(self.wires, quad)
-                .ok_or(Refusal::BadRecord.at(i))?;
+        for (i, quad) in bytes.as_chunks::<4>().0.iter().enumerate() {
+            draft.read(wires, quad).ok_or(Refusal::BadRecord.at(i))?;
         }
         Ok(draft)
     }

@@ -115,7 +115,7 @@ impl Action {
                 start,
             },
             Action::Exchange(first, second) => Step {
-                kind: 12,
+                kind: StepKind::Exchange.code(),
                 first,
                 second,
                 k: 0,

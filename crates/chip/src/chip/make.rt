@@ -1,12 +1,11 @@
 // The chip that records give.
 ghost use Rattle.std.specs.Prelude.{◌≡◌, ℕ, ◌<◌, ◌≤◌, Some, None, Err, length, MatchResult, slice_index, slice_index_or};
-ghost use Rattle.chip.specs.Charts.{Even};
 ghost use Rattle.chip.specs.Chips.{ChipAnswer, MadeChip};
 ghost use Rattle.chip.specs.Tables.{AllGiven, FirstMissing};
 
 use crate::chip::Chip;
 use crate::reach::{Reach, distances};
-use crate::records::ChipRecords;
+use crate::records::{ChipRecords, EvenRecords};
 use rows::{Fault, Refusal};
 
 /// The cycles of each kind at its code, or the refusal at the lowest kind that has no duration.
@@ -24,34 +23,34 @@ fn all_given(durations: &[Option<u16>; 13]) -> Result<[u16; 13], Fault>
     Ok(cycles)
 }
 
-impl ChipRecords<'_> {
-    // `Even` is required by `read`, `build` and `chip`, and is no type of its own: the three call one another, and nobody else calls them.
-    /// Refuses a number of wires that is not 1 to 64, and bytes that are not by four.
-    fn even(self) -> Result<(), Fault>
+impl<'a> ChipRecords<'a> {
+    /// The records, with a number of wires that is 1 to 64 and bytes that are by four, or the refusal.
+    fn even(self) -> Result<EvenRecords<'a>, Fault>
         ensures { MatchResult result
-            (λ _. Even self.entry.wires self.entry.bytes.now)
+            (λ even. even.records ≡ self.entry)
             (λ f. MadeChip self.entry.wires self.entry.bytes.now (Err f)) }
     {
         if !(1..=64).contains(&self.wires) || self.bytes.len() % 4 != 0 {
             return Err(Refusal::RaggedChip.at(0));
         }
-        Ok(())
+        Ok(EvenRecords { records: self })
     }
+}
 
+impl EvenRecords<'_> {
     /// The chip that the records give, or the first refusal.
     fn build(self) -> Result<Chip, Fault>
-        requires { Even self.wires self.bytes.now }
-        ensures { ChipAnswer self.entry.wires self.entry.bytes.now result }
+        ensures { ChipAnswer self.entry.records.wires self.entry.records.bytes.now result }
     {
         let draft = self.read()?;
         let durations = all_given(&draft.durations)?;
-        let wires = self.wires as usize;
+        let wires = self.records.wires as usize;
         if let Some(place) = Reach::from(&draft.couplings, 0).missing(wires) {
             return Err(Refusal::Parted.at(place));
         }
         let distances = distances(&draft.couplings, wires);
         Ok(Chip {
-            wires: self.wires,
+            wires: self.records.wires,
             couplings: draft.couplings,
             durations,
             distances,
@@ -60,8 +59,7 @@ impl ChipRecords<'_> {
 
     /// The same, with what holds of every answer.
     fn chip(self) -> Result<Chip, Fault>
-        requires { Even self.wires self.bytes.now }
-        ensures { MadeChip self.entry.wires self.entry.bytes.now result }
+        ensures { MadeChip self.entry.records.wires self.entry.records.bytes.now result }
     {
         self.build()
     }
@@ -72,7 +70,6 @@ impl Chip {
     pub fn new(records: ChipRecords) -> Result<Chip, Fault>
         ensures { MadeChip records.entry.wires records.entry.bytes.now result }
     {
-        records.even()?;
-        records.chip()
+        records.even()?.chip()
     }
 }
