@@ -29,6 +29,7 @@ fn add_answers(out: &mut String, trials: &[Trial]) -> Result<(), AllocError>
     Ok(())
 }
 
+// Not a Display of `Counts`: the line is that of this program, and a book prints nothing.
 // Adds the last line: what is counted, or the lowest open gate.
 fn add_last(out: &mut String, cleared: Result<Counts, Fault>) -> Result<(), AllocError>
     ensures { OnOk result (string_bytes out.new ≡ string_bytes out.old ++ last_line cleared) }

@@ -1,4 +1,4 @@
-// Numbers of a chip: degrees and the largest distance.
+// Numbers of a chip: degrees and the largest distance. Wires go by their numbers here, as they come from ranges.
 ghost use Rattle.std.specs.Prelude.{◌≡◌, ℕ, ◌<◌};
 ghost use Rattle.chip.specs.Chips.{chart_of};
 ghost use Rattle.chip_text.specs.Report.{largest, Far, degree as degree_of, diameter as diameter_of};

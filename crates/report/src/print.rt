@@ -18,7 +18,7 @@ fn add_entry(out: &mut String, word: &str, n: usize) -> Result<(), AllocError>
     writeln!(out, "{word} {n}")
 }
 
-// All kinds, in the order of their codes.
+// All kinds, in the order of their codes. Listed here: `rows` lists the kinds of steps, of which one, the exchange, is no gate.
 fn all_kinds() -> [Kind; 11]
     ensures { result ≡ kinds }
 {
