@@ -7,7 +7,7 @@ ghost use Rattle.machine.specs.Local.{local};
 ghost use Rattle.machine.specs.Machines.{HasTrueCnot};
 ghost use Rattle.bits.specs.Flips.{bits_rule, bit_of, all_clear};
 
-use cells::{Local, Table, TrueLocal, Width};
+use cells::{Local, Table, Tabled, TrueLocal, Width};
 use machine::{Double, Single};
 use rows::{Kind, Wire};
 
@@ -22,30 +22,14 @@ impl Local for BitsRule {
 
     ghost rule = { bits_rule };
 
-    ghost signed = { false };
-
     ghost made = { λ _. bit_of };
 
     ghost blank = { false };
 
-    ghost fresh = { all_clear };
-
-    ghost Promise = { HasTrueCnot (local bits_rule) };
-
-    ghost FreshPromise = { λ _ _. ⊤ };
-
     ghost zero = { λ _. refl };
-
-    ghost begun = { λ _. record { wide = refl; plus = refl; past = λ _ _. refl } };
-
-    ghost plain = { λ _. record { single = λ _ _ _. refl; double = λ _ _ _ _. refl } };
 
     fn make(_width: u8, number: u64) -> bool {
         number % 2 == 1
-    }
-
-    fn begin(_width: Width, _wire: Wire) -> bool {
-        false
     }
 
     fn shown(cell: bool) -> u64 {
@@ -69,6 +53,24 @@ impl Local for BitsRule {
             second: second != first,
             flips: false,
         }
+    }
+}
+
+impl Tabled for BitsRule {
+    ghost signed = { false };
+
+    ghost fresh = { all_clear };
+
+    ghost Promise = { HasTrueCnot (local bits_rule) };
+
+    ghost FreshPromise = { λ _ _. ⊤ };
+
+    ghost begun = { λ _. record { wide = refl; plus = refl; past = λ _ _. refl } };
+
+    ghost plain = { λ _. record { single = λ _ _ _. refl; double = λ _ _ _ _. refl } };
+
+    fn begin(_width: Width, _wire: Wire) -> bool {
+        false
     }
 
     fn promise(_width: Width) {}

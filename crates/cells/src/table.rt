@@ -1,11 +1,12 @@
 // A table of cells, one a wire.
-ghost use Rattle.std.specs.Prelude.{◌≡◌, ◌<◌, false, ◌&&◌, min, take, slice_index};
+ghost use Rattle.std.specs.Prelude.{◌≡◌, ◌<◌, false, ◌&&◌, min};
 ghost use Rattle.cells.specs.Tables.{made_of};
 ghost use Rattle.cells.specs.Means.{means_of};
 
 mod gates;
 
-use crate::rule::{Local, Signed};
+use crate::rule::{Signed, Tabled};
+use crate::slices::fill_cells;
 use crate::width::Width;
 use rows::Wire;
 use std::array;
@@ -21,29 +22,15 @@ pub struct Table<L, C> {
     rule: PhantomData<L>,
 }
 
-/// The number of a wire, 0 where there is none or where the wire is not below the width.
-fn number_at(numbers: &[u64], width: Width, wire: usize) -> u64
-    ensures { result ≡ slice_index (take width.n numbers.now) wire }
-{
-    if wire < usize::from(width.get()) {
-        numbers.get(wire).copied().unwrap_or(0)
-    } else {
-        0
-    }
-}
-
-impl<L: Local<Cell = C>, C: Copy> Table<L, C> {
+impl<L: Tabled<Cell = C>, C: Copy> Table<L, C> {
     /// The cells of the numbers, and a sign, which counts if the rule is signed. Where there is no number, or the wire is not below the width, it is the cell of 0.
     fn filled(width: Width, numbers: &[u64], minus: bool) -> Self
         ensures made { means_of L.signed L.blank result ≡ made_of (L.made width.n) width.n numbers.now (L.signed && minus) }
         ensures promise { L.Promise }
     {
         L::promise(width);
-        let cells = array::from_fn(
-            |i| -> C
-                ensures { result ≡ L.made width.n (slice_index (take width.n numbers.entry.now) i) }
-            { L::make(width.get(), number_at(numbers, width, i)) },
-        );
+        let mut cells = [L::make(width.get(), 0); 64];
+        fill_cells::<L>(&mut cells, width, numbers);
         Table {
             cells,
             width,

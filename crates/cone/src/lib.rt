@@ -8,7 +8,7 @@ ghost use Rattle.std.proofs.lemmas.Bool.{cond-false, le-ltb};
 ghost use Rattle.cone.specs.Causal.{Causal};
 ghost use Rattle.cone.specs.Sets.{cone_rule, set_of, own_wires};
 
-use cells::{Local, Table, Width};
+use cells::{Local, Table, Tabled, Width};
 use machine::{Double, Single};
 use rows::{Kind, Wire};
 
@@ -24,23 +24,11 @@ impl Local for ConeRule {
 
     ghost rule = { cone_rule };
 
-    ghost signed = { false };
-
     ghost made = { set_of };
 
     ghost blank = { 0 };
 
-    ghost fresh = { own_wires };
-
-    ghost Promise = { ⊤ };
-
-    ghost FreshPromise = { Causal };
-
     ghost zero = { λ n. zero-mod (2 ^ n) };
-
-    ghost begun = { λ n. record { wide = refl; plus = refl; past = λ w h. cond-false (nat_lt w n) (2 ^ w) 0 (le-ltb w n h) } };
-
-    ghost plain = { λ _. record { single = λ _ _ _. refl; double = λ _ _ _ _. refl } };
 
     fn make(width: u8, number: u64) -> u64 {
         if width < 64 {
@@ -48,10 +36,6 @@ impl Local for ConeRule {
         } else {
             number
         }
-    }
-
-    fn begin(width: Width, wire: Wire) -> u64 {
-        if width.has(wire) { 1 << wire.0 } else { 0 }
     }
 
     fn shown(cell: u64) -> u64 {
@@ -72,6 +56,24 @@ impl Local for ConeRule {
             second: first | second,
             flips: false,
         }
+    }
+}
+
+impl Tabled for ConeRule {
+    ghost signed = { false };
+
+    ghost fresh = { own_wires };
+
+    ghost Promise = { ⊤ };
+
+    ghost FreshPromise = { Causal };
+
+    ghost begun = { λ n. record { wide = refl; plus = refl; past = λ w h. cond-false (nat_lt w n) (2 ^ w) 0 (le-ltb w n h) } };
+
+    ghost plain = { λ _. record { single = λ _ _ _. refl; double = λ _ _ _ _. refl } };
+
+    fn begin(width: Width, wire: Wire) -> u64 {
+        if width.has(wire) { 1 << wire.0 } else { 0 }
     }
 
     fn promise(_width: Width) {}

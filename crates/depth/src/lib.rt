@@ -6,7 +6,7 @@ ghost use Rattle.std.specs.Prelude.{◌≡◌, refl, false, ⊤};
 ghost use Rattle.depth.specs.Counts.{depth_rule, count_of, zeros};
 ghost use Rattle.depth.specs.Longest.{CountsChains};
 
-use cells::{Local, Table, Width};
+use cells::{Local, Table, Tabled, Width};
 use machine::{Double, Single};
 use rows::{Kind, Wire};
 
@@ -21,30 +21,14 @@ impl Local for DepthRule {
 
     ghost rule = { depth_rule };
 
-    ghost signed = { false };
-
     ghost made = { λ _. count_of };
 
     ghost blank = { 0 };
 
-    ghost fresh = { zeros };
-
-    ghost Promise = { ⊤ };
-
-    ghost FreshPromise = { CountsChains };
-
     ghost zero = { λ _. refl };
-
-    ghost begun = { λ _. record { wide = refl; plus = refl; past = λ _ _. refl } };
-
-    ghost plain = { λ _. record { single = λ _ _ _. refl; double = λ _ _ _ _. refl } };
 
     fn make(_width: u8, number: u64) -> u32 {
         (number % 0x1_0000_0000) as u32
-    }
-
-    fn begin(_width: Width, _wire: Wire) -> u32 {
-        0
     }
 
     fn shown(cell: u32) -> u64 {
@@ -69,6 +53,24 @@ impl Local for DepthRule {
             second: deeper,
             flips: false,
         }
+    }
+}
+
+impl Tabled for DepthRule {
+    ghost signed = { false };
+
+    ghost fresh = { zeros };
+
+    ghost Promise = { ⊤ };
+
+    ghost FreshPromise = { CountsChains };
+
+    ghost begun = { λ _. record { wide = refl; plus = refl; past = λ _ _. refl } };
+
+    ghost plain = { λ _. record { single = λ _ _ _. refl; double = λ _ _ _ _. refl } };
+
+    fn begin(_width: Width, _wire: Wire) -> u32 {
+        0
     }
 
     fn promise(_width: Width) {}

@@ -1,13 +1,15 @@
 -- Numbers at the front of a text, up to a limit.
-use Rattle.std.proofs.Common.{◌≡◌, ℕ, ◌^◌, ◌<◌, ◌≤◌, List, [], ◌++◌, length, get_or, decimal, sym, refl, ap, ◌∙◌, subst, ⊎_elim, arith}
-use Rattle.std.specs.Str.Parse.{digits_value}
+use Rattle.std.proofs.Common.{◌≡◌, ℕ, ◌+◌, ◌-◌, ◌*◌, ◌^◌, ◌<◌, ◌≤◌, List, [], ◌∷◌, ◌++◌, length, get_or, take, drop, decimal, sym, refl, ap, ◌∙◌, subst, ⊎_elim, arith, take-append-drop}
+use Rattle.std.specs.Str.Parse.{digits_value, digits_value_after}
+use Rattle.std.specs.Char.{digit_value}
 use Rattle.std.specs.List.{AllByRecursion}
-use Rattle.std.specs.Str.{IsAscii}
 use Rattle.std.proofs.lemmas.Fmt.{decimal-digits_value, digits_value-decimal, digits_decimal, decimal_nonempty, first_decimal, decimal_digit, decimal_injective}
+use Rattle.std.proofs.lemmas.Int.Digits.{digits_value_more}
 use Rattle.std.proofs.ByRecursion.{All-get_or, All-from_get_or}
-use Rattle.std.proofs.lemmas.List.{append-nil, get_or_past}
+use Rattle.std.proofs.lemmas.List.{append-nil}
 use Rattle.std.proofs.lemmas.Str.Parse.{IsNumeralModel, numerals_by_value, tells_by_index}
 use Rattle.std.proofs.lemmas.Bool.{cases_lt}
+use Rattle.std.proofs.lemmas.Bool.Decides.{nat_tests}
 use Rattle.lines.specs.Number.{Digit, Begins}
 use Rattle.lines.specs.declared.token.Token.{Token}
 use Rattle.lines.specs.Tokens.{Letter, Longest, Fronts}
@@ -21,6 +23,30 @@ own = numerals_by_value _ tells_by_index
 
 pub by_index : (ds : List ℕ) → AllByRecursion Digit ds → AllDigits ds
 by_index ds all i lt = All-get_or Digit ds i 0 lt all
+
+-- more digits write no smaller number
+after_ge : (n : ℕ) (ds : List ℕ) → n ≤ digits_value_after 10 n ds
+after_ge n [] = omega arith
+after_ge n (c ∷ cs) = omega (arith, after_ge (n * 10 + digit_value c) cs)
+
+after_append : (n : ℕ) (xs ys : List ℕ) → digits_value_after 10 n (xs ++ ys) ≡ digits_value_after 10 (digits_value_after 10 n xs) ys
+after_append n [] ys = refl
+after_append n (c ∷ cs) ys = after_append (n * 10 + digit_value c) cs ys
+
+pub value_front : (ds : List ℕ) (i : ℕ) → digits_value 10 (take i ds) ≤ digits_value 10 ds
+value_front ds i =
+    let whole : digits_value 10 ds ≡ digits_value_after 10 (digits_value 10 (take i ds)) (drop i ds) = ap (digits_value 10) (sym (take-append-drop i ds)) ∙ after_append 0 (take i ds) (drop i ds) in
+    omega (arith, whole, after_ge (digits_value 10 (take i ds)) (drop i ds))
+
+digit_is : (c : ℕ) → Digit c → digit_value c ≡ c - 48
+digit_is c h = grind (arith, nat_tests)
+
+pub value_next : (ds : List ℕ) (i : ℕ) → AllByRecursion Digit ds → i < length ds → digits_value 10 (take (i + 1) ds) ≡ digits_value 10 (take i ds) * 10 + (get_or ds i 0 - 48)
+value_next ds i all h = digits_value_more 10 ds i h ∙ ap (λ d. digits_value 10 (take i ds) * 10 + d) (digit_is (get_or ds i 0) (by_index ds all i h))
+
+-- the value with one digit more
+pub value_step : (ds : List ℕ) (i v : ℕ) → AllByRecursion Digit ds → i < length ds → v ≡ digits_value 10 (take i ds) → v * 10 + (get_or ds i 0 - 48) ≡ digits_value 10 (take (i + 1) ds)
+value_step ds i v all lt e = ap (λ (n : ℕ). n * 10 + (get_or ds i 0 - 48)) e ∙ sym (value_next ds i all lt)
 
 -- digits with no leading zero are a number
 pub begins : (limit : ℕ) (s w rest : List ℕ) → limit < 2 ^ 64 → Longest Digit s w rest → digits_value 10 w ≤ limit → (get_or w 0 0 ≡ 48 → length w ≡ 1) → Begins limit s (digits_value 10 w) rest
@@ -60,8 +86,3 @@ number_token s (Token.Number d) after w rest f l other = other d refl
 number_token s (Token.Name d) after w rest f l other = omega (arith, longest_first Letter _ _ _ f, longest_first Digit _ _ _ l)
 number_token s (Token.Comment d) after w rest f l other = omega (arith, ap (λ x. get_or x 0 0) f.0, longest_first Digit _ _ _ l)
 number_token s (Token.Mark m) after w rest f l other = f.1.no_digit (subst Digit (ap (λ x. get_or x 0 0) f.0) (longest_first Digit _ _ _ l))
-
--- digits are ASCII
-pub digits_ascii : (ds : List ℕ) → AllByRecursion Digit ds → IsAscii ds
-digits_ascii ds all i =
-    ⊎_elim (λ lt. omega (arith, by_index ds all i lt)) (λ past. omega (arith, get_or_past ds i 0 past)) (cases_lt i (length ds))

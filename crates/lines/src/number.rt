@@ -5,19 +5,24 @@ ghost use Rattle.std.specs.Str.Parse.{digits_value};
 ghost use Rattle.lines.specs.Number.{Digit, Begins};
 
 use crate::token::{Token, front};
-use std::str::from_utf8;
 
 // The largest number in a circuit's text: four digits.
 pub(crate) const LARGEST: u32 = 9999;
 
 // The number that the digits write, if it is at most `limit`.
 fn value_of(digits: &[u8], limit: u32) -> Option<u32>
-    requires { (0 < length digits.now) × AllByRecursion Digit digits.now }
+    requires { AllByRecursion Digit digits.now }
     ensures { MatchOption result (limit < digits_value 10 digits.now) (λ v. (v ≤ limit) × (v ≡ digits_value 10 digits.now)) }
 {
-    let text = from_utf8(digits).ok()?;
-    let v = text.parse::<u32>().ok()?;
-    if v <= limit { Some(v) } else { None }
+    // A loop, not the library's `from_utf8` and `parse`: with these the reading of steps took half as much time again.
+    let mut v = 0u64;
+    for b in digits {
+        v = v * 10 + (*b - b'0') as u64;
+        if v > limit as u64 {
+            return None;
+        }
+    }
+    Some(v as u32)
 }
 
 // Whether there are two digits or more, and the first is 0.

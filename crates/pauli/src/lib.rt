@@ -9,7 +9,7 @@ ghost use Rattle.pauli.specs.declared.Letter.{Letter};
 ghost use Rattle.pauli.specs.Conjugation.{PauliPromise};
 ghost use Rattle.pauli.specs.Letters.{pauli_rule, on_two, letter, letter_of, identity};
 
-use cells::{Local, Signed, Table, TrueLocal, Width};
+use cells::{Local, Signed, Table, Tabled, TrueLocal, Width};
 use machine::{Double, Single};
 use rows::{Kind, Wire};
 
@@ -32,33 +32,17 @@ impl Local for PauliRule {
 
     ghost rule = { pauli_rule };
 
-    ghost signed = { true };
-
     ghost made = { λ _. letter_of };
 
     ghost blank = { letter false false };
 
-    ghost fresh = { identity };
-
-    ghost Promise = { PauliPromise };
-
-    ghost FreshPromise = { λ _ _. ⊤ };
-
     ghost zero = { λ _. refl };
-
-    ghost begun = { λ _. record { wide = refl; plus = refl; past = λ _ _. refl } };
-
-    ghost plain = { λ e. absurd (true≢false e) };
 
     fn make(_width: u8, number: u64) -> Letter {
         Letter {
             x: number % 2 == 1,
             z: number / 2 % 2 == 1,
         }
-    }
-
-    fn begin(_width: Width, _wire: Wire) -> Letter {
-        Letter { x: false, z: false }
     }
 
     fn shown(cell: Letter) -> u64 {
@@ -96,6 +80,24 @@ impl Local for PauliRule {
                 flips: false,
             },
         }
+    }
+}
+
+impl Tabled for PauliRule {
+    ghost signed = { true };
+
+    ghost fresh = { identity };
+
+    ghost Promise = { PauliPromise };
+
+    ghost FreshPromise = { λ _ _. ⊤ };
+
+    ghost begun = { λ _. record { wide = refl; plus = refl; past = λ _ _. refl } };
+
+    ghost plain = { λ e. absurd (true≢false e) };
+
+    fn begin(_width: Width, _wire: Wire) -> Letter {
+        Letter { x: false, z: false }
     }
 
     fn promise(_width: Width) {}

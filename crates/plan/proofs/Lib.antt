@@ -1,3 +1,4 @@
 pub mod Circuits
 pub mod Laying
 pub mod Laid
+pub mod Searching

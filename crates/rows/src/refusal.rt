@@ -57,6 +57,7 @@ impl Refusal {
     pub fn number(self) -> u8
         ensures { result ≡ number self }
     {
+        // Its discriminant: each refusal has a number of its own.
         self as u8
     }
 

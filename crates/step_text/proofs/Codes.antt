@@ -1,22 +1,11 @@
 -- The kinds of steps by their names.
-use Rattle.std.proofs.Common.{◌≡◌, ℕ, ◌+◌, ◌-◌, ◌*◌, ◌≤◌, cond, eqb, List, [], ◌∷◌, ◌++◌, length, map, drop, Some, None, Option, MatchOption, codes, sym, refl, ap, ◌∙◌, arith}
-use Rattle.std.specs.List.{range_with_len, AllWithin}
+use Rattle.std.proofs.Common.{◌≡◌, ℕ, ◌+◌, ◌*◌, ◌≤◌, cond, eqb, List, [], ◌∷◌, ◌++◌, drop, codes, sym, refl, ap, ◌∙◌}
 use Rattle.std.proofs.lemmas.List.{append_cancel_left}
 use Rattle.rows.specs.declared.kind.Kind.{Kind}
-use Rattle.rows.proofs.StepKinds.{kind_at, code_bounds, all_length, at_code}
+use Rattle.rows.proofs.StepKinds.{kind_at}
 use Rattle.rows.specs.declared.step_kind.StepKind.{StepKind}
 use Rattle.rows.specs.StepKinds.{step_code, step_name}
 use Rattle.step_text.specs.StepLines.{named}
-
--- of the kinds in the order of their codes, the first whose name is the word
-pub first_named : (word : List ℕ) (all : List StepKind) → map step_code all ≡ range_with_len 1 12 → (Found : StepKind → Type 0) (r : Option StepKind)
-    → MatchOption r (AllWithin (λ κ. ¬ (word ≡ step_name (step_code κ))) all 0 (length all)) Found → ((κ : StepKind) → Found κ → word ≡ step_name (step_code κ))
-    → MatchOption r ((κ : StepKind) → ¬ (word ≡ step_name (step_code κ))) (λ κ. word ≡ step_name (step_code κ))
-first_named word all in_order Found None h found = λ κ e.
-    let b = code_bounds κ in
-    let l = all_length all in_order in
-    h (step_code κ - 1) κ (omega arith) (omega arith) (e ∙ ap step_name (sym (at_code all in_order κ κ)))
-first_named word all in_order Found (Some κ) h found = found κ h
 
 -- a number that tells the names apart, from the bytes before the first space
 abbrev key : ℕ → List ℕ → ℕ

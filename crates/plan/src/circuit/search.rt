@@ -44,10 +44,8 @@ impl Circuit {
             (NoneSharing (gates_in self.now) done.now (gate_at gate) self.now.count)
             (λ i. FirstSharing (gates_in self.now) done.now (gate_at gate) i) }
     {
-        self.gates[..self.count]
-            .iter()
-            .zip(done)
-            .position(|(other, done)| !done && other.shares(gate))
+        // By number, not over a zip of gates and flags, which took longer: each gate that is offered passes all done gates here.
+        (0..self.count).find(|i| !done[*i] && self.gates[*i].shares(gate))
     }
 
     /// The number of this gate, if it is one of the circuit's that is not done, and no earlier gate that is not done has a

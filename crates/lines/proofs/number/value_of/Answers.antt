@@ -1,32 +1,23 @@
-use Rattle.std.proofs.Common.{◌≡◌, ℕ, ◌<◌, ◌^◌, List, length, Ok, Err, Some, None, MatchResult, Result, Bor, sym, ap, ◌∙◌, subst, ⊎_elim, arith}
+use Rattle.std.proofs.Common.{◌+◌, ap, ◌∙◌, arith}
 use Rattle.std.specs.Str.Parse.{digits_value}
-use Rattle.std.proofs.lemmas.Bool.{cases_lt}
-use Rattle.std.specs.Result.{OkIff, result_ok}
-use Rattle.std.proofs.lemmas.Str.{IsUtf8-from_ascii}
-use Rattle.std.proofs.lemmas.Str.Parse.{parse_digits}
-use Rattle.rows.proofs.Results.{no_value}
-use Rattle.lines.proofs.Decimal.{AllDigits, own, by_index, digits_ascii}
+use Rattle.std.proofs.lemmas.List.{take_all}
+use Rattle.std.proofs.ByRecursion.{All-get_or}
+use Rattle.lines.specs.Number.{Digit}
+use Rattle.lines.proofs.Decimal.{value_front, value_step}
 use Rattle.lines.proofs.number.value_of.Goals as goal
 
-unread : {T E : Type 0} (r : Result T E) (P : Type 0) (x : T) → result_ok r ≡ None → OkIff r P x → ¬ P
-unread (Ok y) P x e h = cc
-unread (Err y) P x e h = h
+pub overflow_sub-v : goal.overflow_sub-v
+overflow_sub-v c = omega (arith, All-get_or Digit c.args.digits.now c.loop-b.b-index 0 c.loop-b-test.true c.requires)
 
-same_text : {E : Type 0} (r : Result (Bor (List ℕ)) E) (t : Bor (List ℕ)) (bs : List ℕ) (U : Type 0) (Q : E → Type 0) → result_ok r ≡ Some t → MatchResult r (λ s. (s.now ≡ bs) × U) Q → t.now ≡ bs
-same_text (Ok s) t bs U Q e h = cc
-same_text (Err x) t bs U Q e h = cc
+pub returns-then-v-limit : goal.returns-then-v-limit
+returns-then-v-limit c =
+    let next = value_step c.args.digits.now c.loop-b.b-index c.loop-b.v c.requires c.loop-b-test.true c.loop-b.invariant.0 in
+    omega (arith, c.if-v-limit.true, next, value_front c.args.digits.now (c.loop-b.b-index + 1))
 
-pub returns-in_err-text : goal.returns-in_err-text
-returns-in_err-text c =
-    no_value c.from_utf8.result _ _ _ (sym c.ok.ensures.value ∙ c.in_err-text.was) c.from_utf8.ensures.cases
-    (λ e no. absurd (no.0 (IsUtf8-from_ascii c.args.digits.now (digits_ascii c.args.digits.now c.requires.1))))
+pub loop-b-preserved : goal.loop-b-preserved
+loop-b-preserved c =
+    (value_step c.args.digits.now c.loop-b.b-index c.loop-b.v c.requires c.loop-b-test.true c.loop-b.invariant.0, c.if-v-limit.false)
 
-pub returns-in_err-v : goal.returns-in_err-v
-returns-in_err-v c =
-    let same : c.in_ok-text.text.now ≡ c.args.digits.now = same_text c.from_utf8.result c.in_ok-text.text c.args.digits.now _ _ (sym c.ok.ensures.value ∙ c.in_ok-text.was) c.from_utf8.ensures.cases in
-    let told = unread c.parse.result _ _ (sym c.ok-2.ensures.value ∙ c.in_err-v.was) (parse_digits own 32 c.in_ok-text.text.now _ c.parse.ensures.value.0 (subst AllDigits (sym same) (by_index c.args.digits.now c.requires.1))) in
-    let value = ap (digits_value 10) same in
-    let some : 0 < length c.in_ok-text.text.now = omega (arith, c.requires.0, ap length same) in
-    let room : c.args.limit < 2 ^ 32 = omega (arith, c.ranges.limit) in
-    rw c.from_residual-in_err-v.ensures
-    (⊎_elim (λ lt. absurd (told (some, lt))) (λ ge. omega (arith, ge, value, room)) (cases_lt (digits_value 10 c.in_ok-text.text.now) (2 ^ 32)))
+pub returns : goal.returns
+returns c =
+    (c.loop-b.invariant.1, c.loop-b.invariant.0 ∙ ap (digits_value 10) (take_all c.loop-b.b-index c.args.digits.now c.loop-b-test.false))

@@ -1,6 +1,4 @@
-use Rattle.std.proofs.Common.{codes, Some, arith}
-use Rattle.std.proofs.lemmas.Bool.Decides.{Decides-eqb}
-use Rattle.std.proofs.lemmas.Slice.Eq.{strip_prefix_is}
+use Rattle.std.proofs.Common.{arith}
 use Rattle.lines.proofs.Decimal.{begins_same}
 use Rattle.lines.proofs.OneGate.{after_begins}
 use Rattle.lines.proofs.operands.second.Goals as goal
@@ -8,4 +6,4 @@ use Rattle.lines.proofs.operands.second.Goals as goal
 pub returns-in_err-k : goal.returns-in_err-k
 returns-in_err-k c = rw c.from_residual-in_err-k.ensures (λ b k small suits is.
     c.in_err-k.ensures k suits (begins_same 9999 _ _ b _ _ (omega arith) c.in_ok-qubit.ensures
-    (after_begins _ _ c.args.kind b k small (strip_prefix_is Decides-eqb c.args.s.now (codes ",q") (Some c.in_ok-rest.rest) c.in_ok-rest.ensures.cases) is)).1)
+    (after_begins _ _ c.args.kind b k small c.in_ok-rest.ensures is)).1)

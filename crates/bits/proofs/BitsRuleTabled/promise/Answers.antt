@@ -1,5 +1,5 @@
 use Rattle.bits.proofs.ThreeCnots.{bits_true_cnot}
-use Rattle.bits.proofs.BitsRuleLocal.promise.Goals as goal
+use Rattle.bits.proofs.BitsRuleTabled.promise.Goals as goal
 
 pub returns : goal.returns
 returns c = record { always = bits_true_cnot; begun = tt }
